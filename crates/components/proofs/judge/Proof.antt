@@ -1,0 +1,51 @@
+-- `components::judge` meets its contract. Assumes nothing.
+use mathlib.Core.Path.{_≡_, refl, sym, ap, _∙_}
+use borrow.Author.Tests.{lt-ltb, le-ltb}
+use Rattle.lists.specs.Ladder.{first}
+use Rattle.lists.proofs.Rows.{stops, goes-on, lengths-proper}
+use Rattle.lists.proofs.Tests.{failed, passed}
+use Rattle.components.specs.Step.{meshRows}
+use borrow.Author.Needs.{needs}
+use Rattle.components.proofs.judge.Statement.{statement}
+use Rattle.components.proofs.judge.Tie as tie
+use Rattle.components.proofs.judge.Reads as reads
+use Rattle.components.proofs.judge.Lts as lts
+use Rattle.lists.proofs.all_below.Reads as all-below-reads
+use Rattle.lists.proofs.judge_lengths.Reads as judge-lengths-reads
+
+judge-lengths-requires : tie.Need-judge-lengths-requires
+judge-lengths-requires c κs = search needs
+
+returns : tie.Need-returns
+unfolding meshRows
+returns c = stops _ _ (c .before .judge-lengths .ensures) (c .if1 .taken)
+
+mul-if2 : tie.Need-mul-if2
+mul-if2 c = search needs
+
+returns-2 : tie.Need-returns-2
+unfolding meshRows first
+returns-2 c = rw (goes-on _ _ (lengths-proper _ _) (c .before .before .judge-lengths .ensures) (c .before .if1 .left), lt-ltb _ _ (c .if2 .taken))
+
+all-below-requires : tie.Need-all-below-requires
+all-below-requires c κs = search needs
+
+returns-3 : tie.Need-returns-3
+unfolding meshRows first
+returns-3 c = rw (goes-on _ _ (lengths-proper _ _) (c .before .before .before .before .judge-lengths .ensures) (c .before .before .before .if1 .left), le-ltb _ _ (c .before .before .if2 .left), failed (c .before .all-below .ensures) (c .if3 .taken))
+
+returns-4 : tie.Need-returns-4
+unfolding meshRows first
+returns-4 c = rw (goes-on _ _ (lengths-proper _ _) (c .before .before .before .before .judge-lengths .ensures) (c .before .before .before .if1 .left), le-ltb _ _ (c .before .before .if2 .left), passed (c .before .all-below .ensures) (c .if3 .left))
+
+pub judge-spec : {M : Type 1} → statement M
+judge-spec =
+    tie.close
+    (tie.spec
+    judge-lengths-requires
+    returns
+    mul-if2
+    returns-2
+    all-below-requires
+    returns-3
+    returns-4)

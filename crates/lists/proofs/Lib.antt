@@ -1,0 +1,7 @@
+-- Laws that the proofs of every crate share.
+pub mod Cases
+pub mod Tests
+pub mod Rows
+pub mod Lent
+pub mod Parts
+pub mod Appearing

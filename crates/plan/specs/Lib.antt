@@ -1,0 +1,2 @@
+-- The plan of a grid: document 01, "Plan" and "Numbers that bound a call".
+pub mod Plan

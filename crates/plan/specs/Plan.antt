@@ -1,0 +1,170 @@
+-- The plan: from a box, a cell size c and a number of levels to an origin, a unit and dimensions, or to a refusal. Every operation on
+-- floats is one of binary32, in the order written.
+use Prim.Native.Nat.{ℕ, zero, suc, _+_, _*_, _^_, _≤_, max}
+use mathlib.Core.Bool.{Bool, true, false, not, _&&_, cond}
+use mathlib.Core.List.{List, [], _∷_}
+use lib.Dec.{leb, ltb, eqb}
+use lib.Ieee.{Float, neg, lt}
+use lib.Ieee.Scale.{finite}
+use lib.Ieee.Positive.{positive}
+use Rattle.float32.specs.Operations.{_+f_, _-f_, _*f_, _/f_, whole32, half32, two32}
+use Rattle.float32.specs.Ceiling.{ceilTo}
+use Rattle.lists.specs.Ladder.{Row, _when_}
+use Rattle.plan.specs.declared.Bounds.{Bounds}
+use Rattle.plan.specs.declared.Scale.{Scale}
+use Rattle.plan.specs.declared.Axis.{Axis}
+use Rattle.plan.specs.declared.Axis.the-variants.{Covers, TooLong}
+use Rattle.plan.specs.declared.Plan.{Plan}
+use Rattle.plan.specs.declared.Planned.{Planned}
+use Rattle.plan.specs.declared.Planned.the-variants.{Ready, Refused}
+
+-- ---- the bounds of a call
+
+abbrev pub mostLevels : ℕ
+mostLevels = 5
+
+abbrev pub mostLattice : ℕ
+mostLattice = 128
+
+abbrev pub mostRoots : ℕ
+mostRoots = 64
+
+abbrev pub mostOctants : ℕ
+mostOctants = 1048576
+
+unfoldable pub allFinite : Float → Float → Float → Float → Bool
+allFinite a b c d = finite a && (finite b && (finite c && finite d))
+
+-- ---- what holds for all three axes
+
+-- the lattice: a margin of c, units of c / 2, at least 2 of them
+abbrev pub latticeScale : Float → Scale
+latticeScale c = record { margin = c; width = c *f half32; half = c *f half32; least = 2; most = mostLattice; units = 1 }
+
+-- the octree: a margin of 2 c, roots of width c, at least 1, each 2 · 2 ^ L units wide
+abbrev pub octreeScale : Float → ℕ → Scale
+octreeScale c levels =
+    record {
+      margin = c *f two32;
+      width = c;
+      half = c /f whole32 (2 ^ levels) *f half32;
+      least = 1;
+      most = mostRoots;
+      units = 2 * 2 ^ levels;
+    }
+
+unfoldable pub scaleOf : Float → ℕ → Scale
+scaleOf c levels = cond (eqb levels 0) (latticeScale c) (octreeScale c levels)
+
+-- what a scale never exceeds
+pub record Small (s : Scale) : Type 0 where
+  pub most-small : s .most ≤ mostLattice
+  pub least-small : s .least ≤ 2
+  pub units-small : s .units ≤ 64
+
+-- ---- one axis, from lo to hi
+
+abbrev pub originOf : Scale → Float → Float → Float
+originOf s c lo = lo +f neg c -f s .margin
+
+abbrev pub extentOf : Scale → Float → Float → Float → Float
+extentOf s c lo hi = (hi +f c -f (lo +f neg c)) +f s .margin *f two32
+
+unfoldable pub dimsOf : Scale → Float → Float → Float → ℕ
+dimsOf s c lo hi = max (s .least) (ceilTo (s .most) (extentOf s c lo hi /f s .width))
+
+abbrev pub farOf : Scale → Float → Float → Float → Float
+farOf s c lo hi = originOf s c lo +f whole32 (dimsOf s c lo hi * s .units) *f s .half
+
+-- the domain's bounds, the origin, the extent and the far corner are finite, and the dimension is in its bound
+unfoldable pub fitsOn : Scale → Float → Float → Float → Bool
+fitsOn s c lo hi =
+    allFinite (lo +f neg c) (hi +f c) (originOf s c lo) (extentOf s c lo hi)
+    && (leb (dimsOf s c lo hi) (s .most) && finite (farOf s c lo hi))
+
+unfoldable pub axisOf : Scale → Float → Float → Float → Axis
+axisOf s c lo hi = cond (fitsOn s c lo hi) (Covers (originOf s c lo) (dimsOf s c lo hi)) TooLong
+
+-- ---- the octants
+
+-- those of the L levels from level L down to level 1: level L - k has dims · 2 ^ k along each axis
+unfoldable pub octantsOf : ℕ → ℕ → ℕ → ℕ → ℕ
+octantsOf zero nx ny nz = 0
+octantsOf (suc k) nx ny nz = octantsOf k nx ny nz + nx * 2 ^ k * (ny * 2 ^ k) * (nz * 2 ^ k)
+
+-- what the dimensions and the levels of a grid never exceed
+pub record Few (nx ny nz levels : ℕ) : Type 0 where
+  pub x-few : nx ≤ mostLattice
+  pub y-few : ny ≤ mostLattice
+  pub z-few : nz ≤ mostLattice
+  pub levels-few : levels ≤ mostLevels
+
+-- ---- the refusals, the lowest first
+
+-- the bounds of an axis are finite, and the lower one is not above the upper one
+unfoldable pub straight : Float → Float → Bool
+straight lo hi = finite lo && (finite hi && not (lt hi lo))
+
+unfoldable pub straightBox : Bounds → Bool
+straightBox b = straight (b .x0) (b .x1) && (straight (b .y0) (b .y1) && straight (b .z0) (b .z1))
+
+-- refusal 4 of an axis that does not fit, else what is made of its origin and dimension
+abbrev pub onAxis : Axis → (Float → ℕ → Planned) → Planned
+onAxis TooLong k = Refused 4
+onAxis (Covers o n) k = k o n
+
+unfoldable pub counted : Plan → Planned
+counted p = cond (leb (p .octants) mostOctants) (Ready p) (Refused 4)
+
+unfoldable pub axesOf : Scale → Bounds → Float → ℕ → Planned
+axesOf s b c levels =
+    onAxis (axisOf s c (b .x0) (b .x1)) λ ox nx.
+    onAxis (axisOf s c (b .y0) (b .y1)) λ oy ny.
+    onAxis (axisOf s c (b .z0) (b .z1)) λ oz nz.
+    counted
+    (record {
+      ox = ox;
+      oy = oy;
+      oz = oz;
+      half = s .half;
+      nx = nx;
+      ny = ny;
+      nz = nz;
+      levels = levels;
+      octants = octantsOf levels nx ny nz;
+    })
+
+unfoldable pub planOf : Bounds → Float → ℕ → Planned
+planOf b c levels =
+    cond (positive c)
+    (cond (straightBox b) (cond (leb levels mostLevels) (axesOf (scaleOf c levels) b c levels) (Refused 3)) (Refused 2))
+    (Refused 1)
+
+-- the number of a refusal, and 0 where the plan is ready
+abbrev pub numberOf : Planned → ℕ
+numberOf (Ready p) = 0
+numberOf (Refused n) = n
+
+-- the refusal's number handed up, else what is made of the plan
+abbrev pub onPlan : {A : Type 0} → Planned → (ℕ → A) → (Plan → A) → A
+onPlan (Ready p) refused answer = answer p
+onPlan (Refused n) refused answer = refused n
+
+-- ---- exactly when
+
+-- all three axes fit, and the octants are in their bound
+unfoldable pub fitsAll : Scale → Bounds → Float → ℕ → Bool
+fitsAll s b c levels =
+    fitsOn s c (b .x0) (b .x1)
+    && (fitsOn s c (b .y0) (b .y1)
+    && (fitsOn s c (b .z0) (b .z1)
+    && leb (octantsOf levels (dimsOf s c (b .x0) (b .x1)) (dimsOf s c (b .y0) (b .y1)) (dimsOf s c (b .z0) (b .z1))) mostOctants))
+
+-- refusals 1 to 4, in their order, each with its cause
+unfoldable pub planRows : Bounds → Float → ℕ → List Row
+planRows b c levels =
+    1 when not (positive c)
+    ∷ 2 when not (straightBox b)
+    ∷ 3 when ltb mostLevels levels
+    ∷ 4 when not (fitsAll (scaleOf c levels) b c levels)
+    ∷ []
