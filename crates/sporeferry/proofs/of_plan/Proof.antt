@@ -1,0 +1,22 @@
+-- `sporeferry::of_plan` meets its contract. Assumes nothing.
+use mathlib.Core.Path.{refl}
+use borrow.Author.Needs.{needs}
+use Rattle.sporeferry.proofs.of_plan.Statement.{statement}
+use Rattle.sporeferry.proofs.of_plan.Tie as tie
+use Rattle.sporeferry.proofs.of_plan.Reads as reads
+use Rattle.sporeferry.proofs.of_plan.Lts as lts
+
+enum-known-a : tie.Need-enum-known-a
+enum-known-a c = search needs
+
+enum-known-a-2 : tie.Need-enum-known-a-2
+enum-known-a-2 c = search needs
+
+returns : tie.Need-returns
+returns c = rw (c .before .a .given .1) refl
+
+returns-2 : tie.Need-returns-2
+returns-2 c = rw (c .before .a2 .given .1) refl
+
+pub of-plan-spec : {M : Type 1} → statement M
+of-plan-spec = tie.close (tie.spec enum-known-a enum-known-a-2 returns returns-2)
