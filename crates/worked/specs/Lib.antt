@@ -1,0 +1,2 @@
+-- The worked numbers of document 01.
+pub mod Worked

@@ -1,0 +1,58 @@
+-- The numbers of document 01's "Worked numbers" that are marked (P): one table, one theorem about the definitions.
+use mathlib.Core.Path.{_≡_, refl}
+use mathlib.Core.List.{List, [], _∷_}
+use Prim.Native.Nat.{ℕ}
+use lib.Ieee.{Float, add, sub, mul, div, neg, lt, ofInt, ofBits}
+use Rattle.float32.specs.Operations.{f32}
+use Rattle.float32.specs.Ceiling.{ceilTo}
+use Rattle.plan.specs.Plan.{allFinite, scaleOf, dimsOf, fitsOn, axisOf, octantsOf, straight, straightBox, counted, axesOf, planOf}
+use Rattle.plan.specs.declared.Bounds.{Bounds}
+use Rattle.plan.specs.declared.Planned.{Planned}
+use Rattle.plan.specs.declared.Planned.the-variants.{Ready, Refused}
+
+-- every entry of a list has the property
+unfoldable Every : {A : Type 0} → (A → Type 0) → List A → Type 0
+Every P [] = Unit {0}
+Every P (x ∷ l) = P x × Every P l
+
+-- the box from 0 to x along each axis, x by its bit pattern
+abbrev cube : ℕ → Bounds
+cube x = record { x0 = f32 0; y0 = f32 0; z0 = f32 0; x1 = f32 x; y1 = f32 x; z1 = f32 x }
+
+-- a plan of n along each axis from o on, o and the unit by their bit patterns
+abbrev plan : ℕ → ℕ → ℕ → ℕ → ℕ → Planned
+plan o half n levels octants =
+    Ready (record { ox = f32 o; oy = f32 o; oz = f32 o; half = f32 half; nx = n; ny = n; nz = n; levels = levels; octants = octants })
+
+-- what is asked of a step, and what it says
+data Row : Type 0 where
+  -- the plan of the cube from 0 to x, with the cell size c and these levels
+  planned : (x c levels : ℕ) → Planned → Row
+
+unfoldable Says : Row → Type 0
+Says (planned x c levels answer) = planOf (cube x) (f32 c) levels ≡ answer
+
+abbrev one : ℕ
+one = 0x3f80_0000
+
+abbrev quarter : ℕ
+quarter = 0x3e80_0000
+
+unfoldable table : List Row
+table =
+    -- box all 0, c 1, L 0: dims 8, origin -2, half 0.5
+    planned 0 one 0 (plan 0xc000_0000 0x3f00_0000 8 0 0)
+    -- box 0 to 0.25, c 1, L 0: dims 9
+    ∷ planned quarter one 0 (plan 0xc000_0000 0x3f00_0000 9 0 0)
+    -- box all 0, c 1, L 1: dims 6, origin -3, half 0.25, N 216
+    ∷ planned 0 one 1 (plan 0xc040_0000 quarter 6 1 216)
+    -- c of 0, -0, NaN, infinity: refusal 1
+    ∷ planned 0 0 0 (Refused 1)
+    ∷ planned 0 0x8000_0000 0 (Refused 1)
+    ∷ planned 0 0x7fc0_0000 0 (Refused 1)
+    ∷ planned 0 0x7f80_0000 0 (Refused 1)
+    ∷ []
+
+worked : Every Says table
+unfolding Every Says table ofBits add sub mul div neg lt ofInt ceilTo allFinite scaleOf dimsOf fitsOn axisOf octantsOf straight straightBox counted axesOf planOf
+worked = (refl, refl, refl, refl, refl, refl, refl, tt)
