@@ -10,10 +10,10 @@ use Rattle.plan.specs.declared.Bounds.{Bounds}
 use Rattle.plan.specs.declared.Planned.{Planned}
 use Rattle.plan.specs.declared.Planned.the-variants.{Ready, Refused}
 
--- every entry of a list has the property
-unfoldable Every : {A : Type 0} → (A → Type 0) → List A → Type 0
-Every P [] = Unit {0}
-Every P (x ∷ l) = P x × Every P l
+-- every entry of a list has the property: a proof for each
+data Every {A : Type 0} (P : A → Type 0) : List A → Type 0 where
+  done : Every P []
+  row : {x : A} {l : List A} → P x → Every P l → Every P (x ∷ l)
 
 -- the box from 0 to x along each axis, x by its bit pattern
 abbrev cube : ℕ → Bounds
@@ -54,5 +54,5 @@ table =
     ∷ []
 
 worked : Every Says table
-unfolding Every Says table ofBits add sub mul div neg lt ofInt ceilTo allFinite scaleOf dimsOf fitsOn axisOf octantsOf straight straightBox counted axesOf planOf
-worked = (refl, refl, refl, refl, refl, refl, refl, tt)
+unfolding Says table ofBits add sub mul div neg lt ofInt ceilTo allFinite scaleOf dimsOf fitsOn axisOf octantsOf straight straightBox counted axesOf planOf
+worked = row refl (row refl (row refl (row refl (row refl (row refl (row refl done))))))
