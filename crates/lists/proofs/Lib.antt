@@ -4,4 +4,5 @@ pub mod Tests
 pub mod Rows
 pub mod Lent
 pub mod Parts
+pub mod Counted
 pub mod Appearing
