@@ -1,0 +1,58 @@
+-- The volume of a cell, the verdict on it, and its centroid. Every operation is one of f32, in the order written.
+use mathlib.Core.Bool.{cond}
+use mathlib.Core.List.{List}
+use Prim.Native.Nat.{ℕ}
+use lib.Ieee.{Float, neg, lt}
+use Rattle.float32.specs.Operations.{_+f_, _-f_, _*f_, _/f_, f32, zero32}
+use Rattle.volume.specs.Cell.{cornersOf}
+use Rattle.volume.specs.declared.Point.{Point}
+use Rattle.volume.specs.declared.Verdict.{Verdict}
+use Rattle.volume.specs.declared.Verdict.the-variants.{Kept, Exchanged, Dropped}
+
+abbrev pub minusOf : Point → Point → Point
+minusOf u v = record { x = u .x -f v .x; y = u .y -f v .y; z = u .z -f v .z }
+
+abbrev pub crossOf : Point → Point → Point
+crossOf u v =
+    record {
+      x = u .y *f v .z -f v .y *f u .z;
+      y = u .z *f v .x -f v .z *f u .x;
+      z = u .x *f v .y -f v .x *f u .y;
+    }
+
+abbrev pub dotOf : Point → Point → Float
+dotOf u v = u .x *f v .x +f u .y *f v .y +f u .z *f v .z
+
+-- ((b - a) × (c - a)) · (d - a) / 6
+unfoldable pub volumeOf : Point → Point → Point → Point → Float
+volumeOf a b c d = dotOf (crossOf (minusOf b a) (minusOf c a)) (minusOf d a) /f f32 0x40c0_0000
+
+-- the size of x: a NaN stays one
+unfoldable pub sizeOf : Float → Float
+sizeOf x = cond (lt x zero32) (neg x) x
+
+-- c · c · c · 1.0e-6, from the left
+abbrev pub leastOf : Float → Float
+leastOf c = c *f c *f c *f f32 0x3586_37bd
+
+-- strictly less than the least volume: dropped; else negative: exchanged; else, a NaN and -0 too, kept
+unfoldable pub verdictOf : Float → Float → Verdict
+verdictOf v least = cond (lt (sizeOf v) least) (Dropped v) (cond (lt v zero32) (Exchanged v) (Kept v))
+
+-- the verdict on the cell i
+unfoldable pub verdictAt : List ℕ → List ℕ → ℕ → Float → Verdict
+verdictAt P C i least =
+    let k = cornersOf P C i in
+    verdictOf (volumeOf (k .a) (k .b) (k .c) (k .d)) least
+
+-- the four added in vertex order from zero, and divided by 4
+abbrev pub centreOf : Float → Float → Float → Float → Float
+centreOf a b c d = (zero32 +f a +f b +f c +f d) /f f32 0x4080_0000
+
+abbrev pub centroidOf : Point → Point → Point → Point → Point
+centroidOf a b c d =
+    record {
+      x = centreOf (a .x) (b .x) (c .x) (d .x);
+      y = centreOf (a .y) (b .y) (c .y) (d .y);
+      z = centreOf (a .z) (b .z) (c .z) (d .z);
+    }
