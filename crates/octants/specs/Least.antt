@@ -1,19 +1,19 @@
 -- The balance is the least graded octree over what is given.
-use mathlib.Core.Path.{_≡_, refl, ap, sym, _∙_, subst, fun-ext}
-use mathlib.Core.Bool.{Bool, true, false, _&&_, _||_, true≢false, false≢true}
-use mathlib.Core.Logic.{_⊎_, inl, inr, ⊎-elim}
-use Prim.Native.Nat.{ℕ, zero, suc, _+_, _*_, _-_, _/_, _^_, _≤_, _<_}
+use mathlib.Core.Path.{_≡_, refl, ap, _∙_, subst, fun-ext}
+use mathlib.Core.Bool.{true, false, false≢true}
+use mathlib.Core.Logic.{⊎-elim}
+use Prim.Native.Nat.{ℕ, zero, suc, _+_, _*_, _-_, _/_, _≤_, _<_}
 use native.Mathlib.Omega.{arith}
 use native.Mathlib.Decide.{decLe}
 use Rattle.octants.specs.Oct.{Axis, Pos, Tree, counts, In, parent, Touch, Meet, Leaf, Octree, Graded, Closed, Holds, near, balanced}
-use Rattle.octants.specs.Axis1.{Close, widen, pick, child-in, parent-in, child-parent, meet-close, close-meet, meet-sym, meet-parent}
+use Rattle.octants.specs.Axis1.{widen, pick, child-in, parent-in, child-parent, meet-close, close-meet, meet-sym, meet-parent}
 use Rattle.octants.specs.Near.{or-cases, or-left, or-right, bool-cases, clash, near-some, some-near}
 
 module _ (l : ℕ) (d : Pos) where
   pub parent-inside : (m : ℕ) (x : Pos) → m < l → In l d m x → In l d (suc m) (parent x)
   parent-inside m x h p a = parent-in l (d a) m (x a) h (p a)
 
-  touch-parent : (m : ℕ) (x : Pos) (n : ℕ) (y : Pos) → Touch m x n y → Touch (suc m) (parent x) n y
+  pub touch-parent : (m : ℕ) (x : Pos) (n : ℕ) (y : Pos) → Touch m x n y → Touch (suc m) (parent x) n y
   touch-parent m x n y h a = meet-sym n (y a) (suc m) (x a / 2) (widen n (y a) m (x a) (meet-sym m (x a) n (y a) (h a)))
 
   pub touch-up : (m : ℕ) (x : Pos) (n : ℕ) (y : Pos) → Touch m x n y → Touch m x (suc n) (parent y)
@@ -45,7 +45,7 @@ module _ (l : ℕ) (d : Pos) where
         (bool-cases (t (suc m) (parent x)))
 
     -- below what stands under split ones and touches, a leaf touches
-    below : (n : ℕ) (z : Pos) → n ≤ l → In l d n z → (n < l → t (suc n) (parent z) ≡ true) → (m : ℕ) (x : Pos) → Touch m x n z
+    pub below : (n : ℕ) (z : Pos) → n ≤ l → In l d n z → (n < l → t (suc n) (parent z) ≡ true) → (m : ℕ) (x : Pos) → Touch m x n z
         → (N : ℕ) × (v : Pos) × (N ≤ n) × (Leaf l d t N v) × Touch m x N v
     below zero z f p q m x h = (0, z, omega arith, record { fits = f; inside = p; whole = oct .finest z; under = q }, h)
     below (suc n) z f p q m x h = ⊎-elim
@@ -55,6 +55,16 @@ module _ (l : ℕ) (d : Pos) where
         (v .0, v .1, omega (arith, v .2), v .3, v .4))
         (λ r. (suc n, z, omega arith, record { fits = f; inside = p; whole = r; under = q }, h))
         (bool-cases (t (suc n) z))
+
+    -- the ancestor of a split octant, k levels up, is split, and touches what it touches
+    pub climb : (e k n : ℕ) (y : Pos) → n + k ≡ e → e ≤ l → In l d n y → t n y ≡ true → (m : ℕ) (x : Pos) → Touch m x n y
+        → (z : Pos) × (In l d e z) × (t e z ≡ true) × Touch m x e z
+    climb e zero n y q f p s m x h =
+        let i : n ≡ e = omega arith in
+        subst (λ (e : ℕ). (z : Pos) × (In l d e z) × (t e z ≡ true) × Touch m x e z) i (y, p, s, h)
+    climb e (suc k) n y q f p s m x h =
+        let g : n < l = omega arith in
+        climb e k (suc n) (parent y) (omega arith) f (parent-inside n y g p) (oct .closed n y g p s) m x (touch-up m x n y h)
 
     -- a graded octree is closed
     pub graded-closed : Graded l d t → Closed l d t
@@ -80,22 +90,12 @@ module _ (l : ℕ) (d : Pos) where
           closed = λ m x f p q. c .push m (parent x) x f (parent-inside m x f p) p (λ a. meet-parent m (x a)) q;
         }
 
-    -- the ancestor of a member, k levels up, is one, and touches what it touches
-    up : (e k n : ℕ) (y : Pos) → n + k ≡ e → e ≤ l → In l d n y → t n y ≡ true → (m : ℕ) (x : Pos) → Touch m x n y
-        → (z : Pos) × (In l d e z) × (t e z ≡ true) × Touch m x e z
-    up e zero n y q f p s m x h =
-        let i : n ≡ e = omega arith in
-        subst (λ (e : ℕ). (z : Pos) × (In l d e z) × (t e z ≡ true) × Touch m x e z) i (y, p, s, h)
-    up e (suc k) n y q f p s m x h =
-        let g : n < l = omega arith in
-        up e k (suc n) (parent y) (omega arith) f (parent-inside n y g p) (closed-octree .closed n y g p s) m x (touch-up m x n y h)
-
     -- what touches an octant under a member, more than a level finer, is one
     pub far-push : (m n : ℕ) (x y : Pos) → m ≤ l → suc n < m → In l d m x → In l d n y → t (suc n) (parent y) ≡ true → Touch m x n y → t m x ≡ true
     far-push zero n x y f g p q s h = absurd (omega arith)
     far-push (suc m) n x y f g p q s h =
         let k : ℕ = m - suc n in
-        let z = up m k (suc n) (parent y) (omega arith) (omega arith) (parent-inside n y (omega arith) q) s (suc m) x (touch-up (suc m) x n y h) in
+        let z = climb t closed-octree m k (suc n) (parent y) (omega arith) (omega arith) (parent-inside n y (omega arith) q) s (suc m) x (touch-up (suc m) x n y h) in
         c .push m x (z .0) f p (z .1) (z .3) (z .2)
 
     pub closed-graded : Graded l d t
