@@ -1,0 +1,2 @@
+//! The published crate's path to its hash map.
+pub mod hashmap;

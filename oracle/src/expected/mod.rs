@@ -1,0 +1,14 @@
+//! What each step must answer and leave in the lent tables.
+//!
+//! Refusals and their order are a plain model of document 01, read as docs/DECISIONS.md says. What
+//! is answered comes from the lifted Rust, except for the files, which the Rust does not have.
+
+pub mod components;
+pub mod graded;
+pub mod grid;
+pub mod keep;
+pub mod mesh;
+pub mod mesh_file;
+pub mod plan;
+pub mod refine;
+pub mod vtk;

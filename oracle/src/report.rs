@@ -1,0 +1,87 @@
+//! Counts of cases, refusals met and differences, step by step.
+
+use std::collections::BTreeMap;
+use std::fmt;
+
+/// How many differences of a step are told in words.
+const TOLD: usize = 5;
+
+#[derive(Default)]
+struct Tally {
+    cases: u64,
+    differences: u64,
+    numbers: BTreeMap<u32, u64>,
+    told: Vec<String>,
+}
+
+#[derive(Default)]
+pub struct Report {
+    steps: BTreeMap<&'static str, Tally>,
+    missing: Vec<&'static str>,
+}
+
+impl Report {
+    /// One case: the number answered, and what differed, if anything.
+    pub fn count(&mut self, step: &'static str, number: u32, difference: Option<String>) {
+        let tally = self.steps.entry(step).or_default();
+        tally.cases += 1;
+        *tally.numbers.entry(number).or_default() += 1;
+        if let Some(told) = difference {
+            tally.differences += 1;
+            if tally.told.len() < TOLD {
+                tally.told.push(told);
+            }
+        }
+    }
+
+    /// A step whose function is not in the library.
+    pub fn missing(&mut self, step: &'static str) {
+        self.missing.push(step);
+    }
+
+    /// Whether every step was there to be compared.
+    pub fn is_complete(&self) -> bool {
+        self.missing.is_empty()
+    }
+
+    pub fn differences(&self) -> u64 {
+        self.steps.values().map(|tally| tally.differences).sum()
+    }
+
+    pub fn cases(&self, step: &str) -> u64 {
+        self.steps.get(step).map_or(0, |tally| tally.cases)
+    }
+
+    /// How often a step answered a number.
+    pub fn met(&self, step: &str, number: u32) -> u64 {
+        let tally = self.steps.get(step);
+        tally.and_then(|t| t.numbers.get(&number)).map_or(0, |n| *n)
+    }
+}
+
+impl fmt::Display for Report {
+    fn fmt(&self, f: &mut fmt::Formatter) -> fmt::Result {
+        for (step, tally) in &self.steps {
+            write!(
+                f,
+                "{step:<16} {:>9} cases, {} differences; ",
+                tally.cases, tally.differences
+            )?;
+            for (number, times) in &tally.numbers {
+                match number {
+                    0 => write!(f, " answered {times}")?,
+                    _ => write!(f, "  {number}: {times}")?,
+                }
+            }
+            writeln!(f)?;
+            for told in &tally.told {
+                writeln!(f, "  difference: {told}")?;
+            }
+        }
+        for step in &self.missing {
+            writeln!(f, "{step:<16} not in the library")?;
+        }
+        let cases: u64 = self.steps.values().map(|tally| tally.cases).sum();
+        writeln!(f, "{cases} cases, {} differences", self.differences())
+    }
+}

@@ -1,0 +1,175 @@
+//! Grid: graded and ungraded split tables, lattices, wrong lengths, short room.
+
+use super::rooms::{lengths, resized};
+use super::{boxes, crossings, Sizes};
+use crate::calls::{compare, GridCall, PlanCall};
+use crate::expected::grid::{found, Grid};
+use crate::expected::refine::split_table;
+use crate::lent::Lent;
+use crate::library::Bounds;
+use crate::random::Random;
+use crate::report::Report;
+use std::rc::Rc;
+
+/// A grid with what is expected of it.
+struct Asked {
+    plan: PlanCall,
+    split: Vec<u8>,
+    found: Rc<Result<Grid, u32>>,
+}
+
+impl Asked {
+    fn new(plan: &PlanCall, split: Vec<u8>) -> Self {
+        let found = found(&plan.bounds, plan.c, plan.levels, &split);
+        Self {
+            plan: plan.clone(),
+            found: Rc::new(found),
+            split,
+        }
+    }
+
+    /// Lengths of cells, triples, points, work.
+    fn needs(&self) -> [usize; 4] {
+        match &*self.found {
+            Ok(grid) => [
+                grid.cells.len(),
+                grid.triples.len(),
+                grid.points.len(),
+                4 * grid.cell_count(),
+            ],
+            Err(_) => [40, 30, 30, 40],
+        }
+    }
+
+    fn call(&self, random: &mut Random, room: [usize; 4]) -> GridCall {
+        GridCall {
+            plan: self.plan.clone(),
+            split: Lent::new(&self.split),
+            found: self.found.clone(),
+            cells: Lent::new(&random.dirt(room[0])),
+            triples: Lent::new(&random.dirt(room[1])),
+            points: Lent::new(&random.dirt(room[2])),
+            work: Lent::new(&random.dirt_words(room[3])),
+        }
+    }
+
+    /// With exactly the room needed, and with each table short by one.
+    fn each_short(&self, random: &mut Random, report: &mut Report) {
+        let needs = self.needs();
+        compare(&self.call(random, needs), report);
+        for at in 0..4 {
+            let mut room = needs;
+            room[at] -= 1;
+            compare(&self.call(random, room), report);
+        }
+    }
+
+    fn with_rooms(&self, random: &mut Random, times: usize, report: &mut Report) {
+        for _ in 0..times {
+            let room = lengths(random, self.needs());
+            compare(&self.call(random, room), report);
+        }
+    }
+}
+
+/// A graded table, sometimes with a byte turned or of a wrong kind, or a table of the wrong length.
+fn table(random: &mut Random, plan: &PlanCall, crossing: &[u8]) -> Vec<u8> {
+    let mut split = split_table(&plan.bounds, plan.c, plan.levels, crossing);
+    match random.below(12) {
+        0 => {
+            let len = lengths(random, [split.len()])[0];
+            resized(&split, len, 0)
+        }
+        1 => {
+            let at = random.below(split.len());
+            split[at] = random.pick(&[2, 255]);
+            split
+        }
+        2 | 3 => {
+            let at = random.below(split.len());
+            split[at] ^= 1;
+            split
+        }
+        4 => crossing.to_vec(),
+        _ => split,
+    }
+}
+
+fn octree(random: &mut Random, report: &mut Report) {
+    let levels = boxes::octree_levels(random);
+    let (plan, layout) = boxes::small(random, levels);
+    let crossing = crossings::crossing(random, &layout.layout);
+    let asked = Asked::new(&plan, table(random, &plan, &crossing));
+    if levels <= 2 && random.once_in(3) {
+        asked.each_short(random, report);
+    }
+    asked.with_rooms(random, 2, report);
+}
+
+fn lattice(random: &mut Random, report: &mut Report) {
+    let (plan, _) = boxes::small(random, 0);
+    let split = match random.below(8) {
+        0 => vec![random.pick(&[0, 1, 2])],
+        _ => Vec::new(),
+    };
+    let asked = Asked::new(&plan, split);
+    if random.once_in(4) {
+        asked.each_short(random, report);
+    }
+    asked.with_rooms(random, 2, report);
+}
+
+fn refused(random: &mut Random, report: &mut Report) {
+    let len = random.below(9);
+    let split = random.dirt_bytes(len);
+    Asked::new(&boxes::refused(random), split).with_rooms(random, 1, report);
+}
+
+fn cuboid(sides: [f32; 3], levels: u32) -> PlanCall {
+    PlanCall {
+        bounds: Bounds {
+            min: [0.0; 3],
+            max: sides,
+        },
+        c: 1.0,
+        levels,
+    }
+}
+
+/// The longest axes, and in the long run the largest grids.
+fn at_bounds(random: &mut Random, sizes: &Sizes, report: &mut Report) {
+    for axis in 0..3 {
+        for side in [59.5, 60.0, 60.5] {
+            let mut sides = [0.0; 3];
+            sides[axis] = side;
+            Asked::new(&cuboid(sides, 0), Vec::new()).each_short(random, report);
+        }
+        for side in [57.0, 58.0, 58.5] {
+            let mut sides = [0.0; 3];
+            sides[axis] = side;
+            let plan = cuboid(sides, 1);
+            let octants = (6.0 + side.ceil()) as usize * 36;
+            Asked::new(&plan, vec![0; octants]).with_rooms(random, 1, report);
+        }
+    }
+    if sizes.largest {
+        Asked::new(&cuboid([60.0; 3], 0), Vec::new()).each_short(random, report);
+        Asked::new(&cuboid([58.0; 3], 1), vec![0; 64 * 64 * 64]).each_short(random, report);
+        let plan = cuboid([0.0; 3], 5);
+        let layout = crate::expected::plan::plan(&plan.bounds, 1.0, 5)
+            .unwrap()
+            .layout;
+        let crossing = crossings::shell(&layout, [3.0; 3], 1.4);
+        let split = split_table(&plan.bounds, 1.0, 5, &crossing);
+        Asked::new(&plan, split).each_short(random, report);
+    }
+}
+
+pub fn run(random: &mut Random, sizes: &Sizes, report: &mut Report) {
+    at_bounds(random, sizes, report);
+    for _ in 0..sizes.grids {
+        octree(random, report);
+        lattice(random, report);
+        refused(random, report);
+    }
+}

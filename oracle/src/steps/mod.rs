@@ -1,0 +1,116 @@
+//! The inputs of the comparison, step by step.
+
+pub mod boxes;
+mod crossings;
+mod damage;
+mod files;
+mod grid;
+mod huge;
+mod keep;
+pub mod meshes;
+mod plan;
+mod refine;
+mod rooms;
+mod vtk_headers;
+pub mod worked;
+
+pub use crossings::{crossing, shell};
+
+use crate::library::MISSING;
+use crate::random::Random;
+use crate::report::Report;
+
+/// How many inputs each step is given.
+#[derive(Copy, Clone)]
+pub struct Sizes {
+    pub plans: usize,
+    pub octrees: usize,
+    pub grids: usize,
+    pub meshes: usize,
+    pub files: usize,
+    /// Also the inputs that take seconds or gigabytes: full lattices, tables at their bounds.
+    pub largest: bool,
+}
+
+impl Sizes {
+    /// Under a minute.
+    pub const SHORT: Sizes = Sizes {
+        plans: 100_000,
+        octrees: 150,
+        grids: 120,
+        meshes: 4_000,
+        files: 400,
+        largest: false,
+    };
+
+    pub const LONG: Sizes = Sizes {
+        plans: 2_000_000,
+        octrees: 4_000,
+        grids: 3_000,
+        meshes: 200_000,
+        files: 20_000,
+        largest: true,
+    };
+
+    pub fn scaled(self, by: f64) -> Self {
+        let times = |count: usize| (count as f64 * by).ceil() as usize;
+        Self {
+            plans: times(self.plans),
+            octrees: times(self.octrees),
+            grids: times(self.grids),
+            meshes: times(self.meshes),
+            files: times(self.files),
+            largest: self.largest,
+        }
+    }
+}
+
+type Run = fn(&mut Random, &Sizes, &mut Report);
+
+/// Each step's name, the C functions it calls, and its runner.
+const STEPS: [(&str, &[&str], Run); 11] = [
+    ("plan", &["sf_plan"], plan::run),
+    ("refine", &["sf_refine"], refine::run),
+    ("grid", &["sf_grid"], grid::run),
+    (
+        "representatives",
+        &["sf_representatives"],
+        keep::run_representatives,
+    ),
+    ("keep_cover", &["sf_keep_cover"], keep::run_cover),
+    ("keep_crust", &["sf_keep_crust"], keep::run_crust),
+    ("components", &["sf_components"], keep::run_components),
+    ("one_piece", &["sf_one_piece"], keep::run_one_piece),
+    (
+        "mesh_file",
+        &["sf_write_mesh", "sf_read_mesh"],
+        files::run_mesh,
+    ),
+    ("vtk", &["sf_write_vtk", "sf_read_vtk"], files::run_vtk),
+    ("huge", &[], huge::run),
+];
+
+/// The names that `--steps` takes.
+pub fn names() -> Vec<&'static str> {
+    STEPS.map(|(name, _, _)| name).to_vec()
+}
+
+pub fn in_library(functions: &[&str]) -> bool {
+    !functions.iter().any(|name| MISSING.contains(name))
+}
+
+/// Runs the steps chosen, each from the seed alone, so that one step can be run again.
+pub fn run(chosen: &[&str], seed: u64, sizes: &Sizes) -> Report {
+    let mut report = Report::default();
+    for (name, functions, run) in STEPS {
+        if !chosen.contains(&name) {
+            continue;
+        }
+        if in_library(functions) {
+            run(&mut Random::new(seed), sizes, &mut report);
+        } else {
+            report.missing(name);
+        }
+    }
+    report
+}

@@ -1,0 +1,27 @@
+//! The short comparison, as the gate runs it. It wants the library: `rt staticlib sporeferry`.
+
+use oracle::steps::{self, Sizes};
+
+/// The steps that the library has, with the refusals that a run must meet.
+const LANDED: [(&str, &[(&str, &[u32])]); 3] = [
+    ("plan", &[("plan", &[0, 1, 2, 3, 4])]),
+    ("components", &[("components", &[0, 5, 8, 9])]),
+    ("one_piece", &[("one_piece", &[0, 5, 8])]),
+];
+
+#[test]
+fn the_library_answers_as_the_rust() {
+    let chosen: Vec<&str> = LANDED.iter().map(|(step, _)| *step).collect();
+    let report = steps::run(&chosen, 1, &Sizes::SHORT);
+    print!("{report}");
+    assert!(report.is_complete(), "not in the library:\n{report}");
+    assert_eq!(report.differences(), 0, "\n{report}");
+    for (step, numbers) in LANDED.iter().flat_map(|(_, calls)| *calls) {
+        for number in *numbers {
+            assert!(
+                report.met(step, *number) > 0,
+                "{step} never answered {number}"
+            );
+        }
+    }
+}
