@@ -4,5 +4,6 @@ pub mod Tests
 pub mod Rows
 pub mod Lent
 pub mod Parts
+pub mod Running
 pub mod Counted
 pub mod Appearing
