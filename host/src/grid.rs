@@ -1,0 +1,194 @@
+//! The background grid, and the steps that keep a mesh of it.
+
+use crate::ffi;
+use crate::mesh::Mesh;
+use crate::plan::fitted;
+use crate::refusal::{Refusal, Step};
+
+/// A grid of cells that fills the planned domain.
+#[derive(Clone, Debug, PartialEq)]
+pub struct Grid {
+    pub points: Vec<[f32; 3]>,
+    /// Each cell names four points.
+    pub cells: Vec<[u32; 4]>,
+    /// Each vertex in whole units from the plan's origin.
+    pub triples: Vec<[u32; 3]>,
+}
+
+/// A cell that stands for its group of joined cells, and where to probe it.
+#[derive(Clone, Copy, Debug, PartialEq)]
+pub struct Representative {
+    pub cell: u32,
+    pub centroid: [f32; 3],
+}
+
+/// A kept mesh and the number of marked cells that were dropped as flat.
+#[derive(Clone, Debug, PartialEq)]
+pub struct Kept {
+    pub mesh: Mesh,
+    pub dropped: u64,
+}
+
+/// Representatives that the first call has room for. Parts have a few; more cost a second call.
+const FIRST_ROOM: usize = 1024;
+
+impl Grid {
+    /// The cells to probe: the highest-numbered of each group of cells that are not crossed and are
+    /// joined through shared vertices. Refused with 4, 5, 6 or 8.
+    ///
+    /// ```
+    /// use sporeferry::Grid;
+    /// let grid = Grid {
+    ///     points: vec![[0.0; 3]; 11],
+    ///     cells: vec![[0, 1, 2, 3], [3, 4, 5, 6], [7, 8, 9, 10]],
+    ///     triples: vec![],
+    /// };
+    /// let cells = |crossing: &[u8]| -> Vec<u32> {
+    ///     grid.representatives(crossing).unwrap().iter().map(|group| group.cell).collect()
+    /// };
+    /// assert_eq!(cells(&[0, 0, 0]), [1, 2]);
+    /// assert_eq!(cells(&[0, 1, 0]), [0, 2]);
+    /// assert_eq!(grid.representatives(&[0, 2, 0]).unwrap_err().number, 6);
+    /// ```
+    pub fn representatives(&self, crossing: &[u8]) -> Result<Vec<Representative>, Refusal> {
+        match self.representatives_within(crossing, FIRST_ROOM.min(self.cells.len())) {
+            Err(short) if short.number == 9 => {
+                self.representatives_within(crossing, short.values[0] as usize)
+            }
+            told => told,
+        }
+    }
+
+    fn representatives_within(
+        &self,
+        crossing: &[u8],
+        room: usize,
+    ) -> Result<Vec<Representative>, Refusal> {
+        let (points, cells) = (self.points.as_flattened(), self.cells.as_flattened());
+        let mut numbers = vec![0; room];
+        let mut centroids = vec![[0.0; 3]; room];
+        let mut work = vec![0; self.cells.len() + self.points.len()];
+        let answer = unsafe {
+            ffi::sf_representatives(
+                points.as_ptr(),
+                points.len(),
+                cells.as_ptr(),
+                cells.len(),
+                crossing.as_ptr(),
+                crossing.len(),
+                numbers.as_mut_ptr(),
+                numbers.len(),
+                centroids.as_flattened_mut().as_mut_ptr(),
+                3 * room,
+                work.as_mut_ptr(),
+                work.len(),
+            )
+        };
+        let [count, ..] = answer.told(Step::Representatives)?;
+        let pairs = numbers.into_iter().zip(centroids).take(count as usize);
+        Ok(pairs
+            .map(|(cell, centroid)| Representative { cell, centroid })
+            .collect())
+    }
+
+    /// The mesh of the crossed cells and of the groups whose representative's probe byte is 1.
+    /// Refused with 1, 4, 5, 6, 8 or 10.
+    ///
+    /// ```
+    /// use sporeferry::Grid;
+    /// let grid = Grid {
+    ///     points: vec![[0.0; 3], [1.0, 0.0, 0.0], [0.0, 1.0, 0.0], [0.0, 0.0, 1.0]],
+    ///     cells: vec![[0, 2, 1, 3]],
+    ///     triples: vec![],
+    /// };
+    /// let kept = grid.keep_cover(1.0, &[0], &[1]).unwrap();
+    /// assert_eq!(kept.mesh.cells, [[0, 1, 2, 3]]);
+    /// assert_eq!(kept.mesh.points[0], [0.0, 1.0, 0.0]);
+    /// assert_eq!(kept.dropped, 0);
+    /// assert_eq!(grid.keep_cover(1.0, &[0], &[0]).unwrap_err().number, 10);
+    /// ```
+    pub fn keep_cover(&self, cell: f32, crossing: &[u8], probe: &[u8]) -> Result<Kept, Refusal> {
+        let (points, cells) = (self.points.as_flattened(), self.cells.as_flattened());
+        let mut rooms = KeptRooms::for_grid(self);
+        let answer = unsafe {
+            ffi::sf_keep_cover(
+                cell,
+                points.as_ptr(),
+                points.len(),
+                cells.as_ptr(),
+                cells.len(),
+                crossing.as_ptr(),
+                crossing.len(),
+                probe.as_ptr(),
+                probe.len(),
+                rooms.points.as_flattened_mut().as_mut_ptr(),
+                points.len(),
+                rooms.cells.as_flattened_mut().as_mut_ptr(),
+                cells.len(),
+                rooms.work.as_mut_ptr(),
+                rooms.work.len(),
+            )
+        };
+        Ok(rooms.kept(answer.told(Step::KeepCover)?))
+    }
+
+    /// The mesh of the crossed cells alone. Refused with 1, 4, 5, 6, 8 or 10.
+    ///
+    /// ```
+    /// use sporeferry::{Bounds, Plan};
+    /// let grid = Plan::new(Bounds::default(), 1.0, 0).unwrap().grid(&[]).unwrap();
+    /// let mut crossing = vec![0; grid.cells.len()];
+    /// crossing[7] = 1;
+    /// let kept = grid.keep_crust(1.0, &crossing).unwrap();
+    /// assert_eq!((kept.mesh.points.len(), kept.mesh.cells.len()), (4, 1));
+    /// ```
+    pub fn keep_crust(&self, cell: f32, crossing: &[u8]) -> Result<Kept, Refusal> {
+        let (points, cells) = (self.points.as_flattened(), self.cells.as_flattened());
+        let mut rooms = KeptRooms::for_grid(self);
+        let answer = unsafe {
+            ffi::sf_keep_crust(
+                cell,
+                points.as_ptr(),
+                points.len(),
+                cells.as_ptr(),
+                cells.len(),
+                crossing.as_ptr(),
+                crossing.len(),
+                rooms.points.as_flattened_mut().as_mut_ptr(),
+                points.len(),
+                rooms.cells.as_flattened_mut().as_mut_ptr(),
+                cells.len(),
+                rooms.work.as_mut_ptr(),
+                rooms.work.len(),
+            )
+        };
+        Ok(rooms.kept(answer.told(Step::KeepCrust)?))
+    }
+}
+
+/// The tables lent to keeping: as many points and cells as the grid has are always enough.
+struct KeptRooms {
+    points: Vec<[f32; 3]>,
+    cells: Vec<[u32; 4]>,
+    work: Vec<u32>,
+}
+
+impl KeptRooms {
+    fn for_grid(grid: &Grid) -> Self {
+        KeptRooms {
+            points: vec![[0.0; 3]; grid.points.len()],
+            cells: vec![[0; 4]; grid.cells.len()],
+            work: vec![0; grid.cells.len() + 2 * grid.points.len()],
+        }
+    }
+
+    fn kept(mut self, [points, cells, dropped]: [u64; 3]) -> Kept {
+        Kept {
+            mesh: Mesh {
+                points: fitted(&mut self.points, points),
+                cells: fitted(&mut self.cells, cells),
+            },
+            dropped,
+        }
+    }
+}

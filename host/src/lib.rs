@@ -1,0 +1,43 @@
+//! Safe bindings to Sporeferry, and the host side of its command-line tool.
+//!
+//! The steps are [`Plan::new`], [`Plan::refine`], [`Plan::grid`], [`Grid::representatives`],
+//! [`Grid::keep_cover`], [`Grid::keep_crust`], [`Mesh::components`], [`Mesh::one_piece`],
+//! [`Mesh::to_bytes`] and [`Mesh::from_bytes`]. Each sizes and lends the tables of one function of
+//! `include/sporeferry.h` and gives its answer or a [`Refusal`]. That library is proved; these bindings
+//! and the modules below are ordinary Rust, tested and not proved.
+//!
+//! [`cover::cover`] goes the whole way from a part's surface to its mesh.
+//!
+//! ```
+//! use sporeferry::{Bounds, Plan};
+//! let plan = Plan::new(Bounds { min: [0.0; 3], max: [4.0, 1.0, 1.0] }, 1.0, 1)?;
+//! let refined = plan.refine(&vec![0; plan.octants()])?;
+//! let grid = plan.grid(&refined.split)?;
+//! let crossing = vec![1; grid.cells.len()];
+//! let kept = grid.keep_crust(plan.cell(), &crossing)?;
+//! assert!(kept.mesh.one_piece()?);
+//! # Ok::<(), sporeferry::Refusal>(())
+//! ```
+
+mod answers;
+pub mod cover;
+pub mod crossing;
+mod ffi;
+mod grid;
+pub mod inside;
+mod mesh;
+pub mod part;
+mod plan;
+mod progress;
+mod refusal;
+pub mod stl;
+pub mod surface;
+#[cfg(test)]
+mod testing;
+mod vector;
+pub mod whole_file;
+
+pub use grid::{Grid, Kept, Representative};
+pub use mesh::{Components, Mesh};
+pub use plan::{Bounds, Plan, Refined};
+pub use refusal::{Refusal, Step};

@@ -1,0 +1,172 @@
+//! Meshes: component numbers, one piece, and the mesh file.
+
+use crate::ffi;
+use crate::plan::fitted;
+use crate::refusal::{Refusal, Step};
+use crate::vector::{cross, dot, sub, wide};
+
+/// Points and tetrahedra. Anything may stand in it: every step answers or refuses.
+#[derive(Clone, Debug, Default, PartialEq)]
+pub struct Mesh {
+    pub points: Vec<[f32; 3]>,
+    /// Each cell names four points.
+    pub cells: Vec<[u32; 4]>,
+}
+
+/// The answer of [`Mesh::components`].
+#[derive(Clone, Debug, PartialEq, Eq)]
+pub struct Components {
+    /// A number for each cell, counted up from 0 by first appearance.
+    pub numbers: Vec<u32>,
+    /// How many different numbers there are.
+    pub count: u64,
+}
+
+impl Mesh {
+    /// A number for each cell; cells joined through shared vertices have the same one. Refused with 4
+    /// or 8.
+    ///
+    /// ```
+    /// use sporeferry::Mesh;
+    /// let cells = vec![[5, 6, 7, 8], [0, 1, 2, 3], [8, 9, 10, 11]];
+    /// let mesh = Mesh { points: vec![[0.0; 3]; 12], cells };
+    /// let components = mesh.components().unwrap();
+    /// assert_eq!((components.numbers, components.count), (vec![0, 1, 0], 2));
+    /// ```
+    pub fn components(&self) -> Result<Components, Refusal> {
+        let (points, cells) = (self.points.as_flattened(), self.cells.as_flattened());
+        let mut numbers = vec![0; self.cells.len()];
+        let mut work = self.work();
+        let answer = unsafe {
+            ffi::sf_components(
+                points.as_ptr(),
+                points.len(),
+                cells.as_ptr(),
+                cells.len(),
+                numbers.as_mut_ptr(),
+                numbers.len(),
+                work.as_mut_ptr(),
+                work.len(),
+            )
+        };
+        let [count, ..] = answer.told(Step::Components)?;
+        Ok(Components { numbers, count })
+    }
+
+    /// Whether all cells have the same component number; a mesh without cells is not one piece.
+    /// Refused with 4 or 8.
+    ///
+    /// ```
+    /// use sporeferry::Mesh;
+    /// let mesh = Mesh { points: vec![[0.0; 3]; 4], cells: vec![[0, 1, 2, 3]] };
+    /// assert_eq!(mesh.one_piece(), Ok(true));
+    /// assert_eq!(Mesh::default().one_piece(), Ok(false));
+    /// ```
+    pub fn one_piece(&self) -> Result<bool, Refusal> {
+        let (points, cells) = (self.points.as_flattened(), self.cells.as_flattened());
+        let mut work = self.work();
+        let answer = unsafe {
+            ffi::sf_one_piece(
+                points.as_ptr(),
+                points.len(),
+                cells.as_ptr(),
+                cells.len(),
+                work.as_mut_ptr(),
+                work.len(),
+            )
+        };
+        Ok(answer.told(Step::OnePiece)?[0] == 1)
+    }
+
+    /// The bytes of the mesh's file. Refused with 4 or 8.
+    ///
+    /// ```
+    /// use sporeferry::Mesh;
+    /// assert_eq!(Mesh::default().to_bytes().unwrap(), [0; 12]);
+    /// let missing = Mesh { points: vec![], cells: vec![[0, 0, 0, 0]] };
+    /// assert_eq!(missing.to_bytes().unwrap_err().number, 8);
+    /// ```
+    pub fn to_bytes(&self) -> Result<Vec<u8>, Refusal> {
+        match self.to_bytes_within(0) {
+            Err(short) if short.number == 9 => self.to_bytes_within(short.values[0] as usize),
+            told => told,
+        }
+    }
+
+    fn to_bytes_within(&self, room: usize) -> Result<Vec<u8>, Refusal> {
+        let (points, cells) = (self.points.as_flattened(), self.cells.as_flattened());
+        let mut file = vec![0; room];
+        let mut work = self.work();
+        let answer = unsafe {
+            ffi::sf_write_mesh(
+                points.as_ptr(),
+                points.len(),
+                cells.as_ptr(),
+                cells.len(),
+                file.as_mut_ptr(),
+                file.len(),
+                work.as_mut_ptr(),
+                work.len(),
+            )
+        };
+        let [bytes, ..] = answer.told(Step::WriteMesh)?;
+        Ok(fitted(&mut file, bytes))
+    }
+
+    /// The mesh of a file's bytes. Refused with 11, 12, 4, 8 or 13.
+    ///
+    /// ```
+    /// use sporeferry::Mesh;
+    /// let mesh = Mesh { points: vec![[1.5; 3]; 4], cells: vec![[0, 1, 2, 3]] };
+    /// let mut file = mesh.to_bytes().unwrap();
+    /// assert_eq!(Mesh::from_bytes(&file), Ok(mesh));
+    /// file.push(0);
+    /// assert_eq!(Mesh::from_bytes(&file).unwrap_err().number, 12);
+    /// ```
+    pub fn from_bytes(file: &[u8]) -> Result<Self, Refusal> {
+        match Self::from_bytes_within(file, 0, 0) {
+            Err(short) if short.number == 9 => {
+                let [points, cells, _] = short.values.map(|count| count as usize);
+                Self::from_bytes_within(file, points, cells)
+            }
+            told => told,
+        }
+    }
+
+    fn from_bytes_within(file: &[u8], points: usize, cells: usize) -> Result<Self, Refusal> {
+        let mut mesh = Mesh {
+            points: vec![[0.0; 3]; points],
+            cells: vec![[0; 4]; cells],
+        };
+        let mut work = mesh.work();
+        let answer = unsafe {
+            ffi::sf_read_mesh(
+                file.as_ptr(),
+                file.len(),
+                mesh.points.as_flattened_mut().as_mut_ptr(),
+                3 * points,
+                mesh.cells.as_flattened_mut().as_mut_ptr(),
+                4 * cells,
+                work.as_mut_ptr(),
+                work.len(),
+            )
+        };
+        answer.told(Step::ReadMesh).map(|_| mesh)
+    }
+
+    /// The sum of the cells' absolute volumes, in f64. A cell that names a missing point counts nothing.
+    /// Computed here, not by the proved library.
+    pub fn volume(&self) -> f64 {
+        let point = |number: u32| self.points.get(number as usize).copied().map(wide);
+        let volume = |cell: &[u32; 4]| {
+            let [a, b, c, d] = cell.map(point);
+            let (a, b, c, d) = (a?, b?, c?, d?);
+            Some(dot(cross(sub(b, a), sub(c, a)), sub(d, a)).abs() / 6.0)
+        };
+        self.cells.iter().filter_map(volume).sum()
+    }
+
+    fn work(&self) -> Vec<u32> {
+        vec![0; 2 * self.points.len()]
+    }
+}

@@ -1,0 +1,144 @@
+//! Refusals: the step, its number, the values it carries, and plain words.
+
+use std::fmt;
+
+/// The step that refused.
+#[derive(Clone, Copy, Debug, PartialEq, Eq)]
+pub enum Step {
+    Plan,
+    Refine,
+    Grid,
+    Representatives,
+    KeepCover,
+    KeepCrust,
+    Components,
+    OnePiece,
+    WriteMesh,
+    ReadMesh,
+}
+
+impl Step {
+    /// The step's name as people say it.
+    pub fn name(self) -> &'static str {
+        match self {
+            Step::Plan => "plan",
+            Step::Refine => "refine",
+            Step::Grid => "grid",
+            Step::Representatives => "representatives",
+            Step::KeepCover => "keep (cover)",
+            Step::KeepCrust => "keep (crust)",
+            Step::Components => "components",
+            Step::OnePiece => "one piece",
+            Step::WriteMesh => "write mesh",
+            Step::ReadMesh => "read mesh",
+        }
+    }
+}
+
+/// Why a step gave no answer. Its `Display` is one plain sentence.
+///
+/// ```
+/// use sporeferry::{Bounds, Plan};
+/// let refusal = Plan::new(Bounds::default(), f32::NAN, 0).unwrap_err();
+/// assert_eq!(refusal.number, 1);
+/// assert_eq!(
+///     refusal.to_string(),
+///     "refusal 1 of plan: the cell size must be a finite number above zero"
+/// );
+/// ```
+#[derive(Clone, Copy, Debug, PartialEq, Eq)]
+pub struct Refusal {
+    pub step: Step,
+    /// The refusal's number, 1 to 13.
+    pub number: u32,
+    /// The counts needed on a 9, in the order the header names them; else zeros.
+    pub values: [u64; 3],
+}
+
+impl Refusal {
+    pub(crate) fn new(step: Step, number: u32, values: [u64; 3]) -> Self {
+        Refusal {
+            step,
+            number,
+            values,
+        }
+    }
+
+    /// The cause in plain words, without number and step.
+    pub fn words(&self) -> String {
+        match self.number {
+            1 => "the cell size must be a finite number above zero".into(),
+            2 => {
+                "the box has a bound that is not finite, or a least bound above its greatest".into()
+            }
+            3 => "more than 5 levels were asked for".into(),
+            4 => self.too_large().into(),
+            5 => self.wrong_length().into(),
+            6 => self.wrong_byte().into(),
+            7 => "the split table is no graded octree: an octant is split under one that is not, \
+                  or touching leaves are more than one level apart"
+                .into(),
+            8 => "a cell names a point that is not there".into(),
+            9 => self.too_short(),
+            10 => "nothing is kept: no cell is marked, or all that are marked are flat".into(),
+            11 => "the file ends inside a count or a section".into(),
+            12 => "the file has bytes after its last section".into(),
+            13 => "the component numbers in the file are not those of its cells".into(),
+            number => format!("the library gave {number}, a number these bindings do not know"),
+        }
+    }
+
+    fn too_large(&self) -> &'static str {
+        match self.step {
+            Step::Plan | Step::Refine | Step::Grid => {
+                "the box is too large for this cell size and these levels (an octree has at most \
+                 64 roots along an axis and 1,048,576 octants, a lattice at most 64 cells along \
+                 an axis), or coordinates run past the 32-bit floats"
+            }
+            _ => "there are more than 536,870,912 points or cells",
+        }
+    }
+
+    fn wrong_length(&self) -> &'static str {
+        match self.step {
+            Step::Refine => "the crossing table must have one byte for each octant",
+            Step::Grid => "the split table must have one byte for each octant",
+            Step::Representatives | Step::KeepCrust => {
+                "the crossing table must have one byte for each cell"
+            }
+            Step::KeepCover => "the crossing and probe tables must have one byte for each cell",
+            _ => "a table has the wrong length",
+        }
+    }
+
+    fn wrong_byte(&self) -> &'static str {
+        match self.step {
+            Step::Grid => "the split table holds a byte other than 0 and 1",
+            Step::KeepCover => "the crossing or probe table holds a byte other than 0 and 1",
+            _ => "the crossing table holds a byte other than 0 and 1",
+        }
+    }
+
+    fn too_short(&self) -> String {
+        let [first, second, _] = self.values;
+        match self.step {
+            Step::Refine => format!("the split table needs room for {first} octants"),
+            Step::Grid if second == 0 => format!("{first} cells and their work need more room"),
+            Step::Grid => format!("{first} cells with {second} vertices need more room"),
+            Step::KeepCover | Step::KeepCrust | Step::ReadMesh => {
+                format!("{first} points and {second} cells need more room")
+            }
+            Step::WriteMesh => format!("the file needs room for {first} bytes"),
+            _ => format!("the result needs room for {first} entries"),
+        }
+    }
+}
+
+impl fmt::Display for Refusal {
+    fn fmt(&self, f: &mut fmt::Formatter<'_>) -> fmt::Result {
+        let (number, step) = (self.number, self.step.name());
+        write!(f, "refusal {number} of {step}: {}", self.words())
+    }
+}
+
+impl std::error::Error for Refusal {}

@@ -1,0 +1,123 @@
+//! Files written whole or not at all: under a temporary name in the same folder, then renamed.
+
+use std::fs::{self, File, OpenOptions};
+use std::io::{self, ErrorKind, Write};
+use std::path::{Path, PathBuf};
+
+/// Whether a file could be put there: its folder exists, and nothing but an ordinary file is in its place.
+pub fn check_place(path: &Path) -> io::Result<()> {
+    let folder = folder_of(path);
+    if !fs::metadata(folder)?.is_dir() {
+        return Err(io::Error::new(
+            ErrorKind::NotADirectory,
+            "its folder is no folder",
+        ));
+    }
+    match fs::metadata(path) {
+        Ok(found) if !found.is_file() => {
+            Err(io::Error::other("it is there and is no ordinary file"))
+        }
+        Ok(_) => Ok(()),
+        Err(error) if error.kind() == ErrorKind::NotFound && path.file_name().is_some() => Ok(()),
+        Err(error) => Err(error),
+    }
+}
+
+/// Writes the bytes there, in place of a file of that name. On failure what was there still is, and nothing
+/// else is left.
+pub fn write_whole(path: &Path, bytes: &[u8]) -> io::Result<()> {
+    check_place(path)?;
+    let place = fs::canonicalize(path).unwrap_or_else(|_| path.to_path_buf());
+    let (temporary, file) = create_beside(&place)?;
+    let done = fill(file, bytes).and_then(|()| fs::rename(&temporary, &place));
+    if done.is_err() {
+        let _ = fs::remove_file(&temporary);
+    }
+    done
+}
+
+fn fill(mut file: File, bytes: &[u8]) -> io::Result<()> {
+    file.write_all(bytes)?;
+    file.sync_all()
+}
+
+/// A new file in the same folder, under a name that no file has.
+fn create_beside(place: &Path) -> io::Result<(PathBuf, File)> {
+    let process = std::process::id();
+    let mut attempt = 0;
+    loop {
+        let name = format!(".sporeferry-{process}-{attempt}.tmp");
+        let temporary = folder_of(place).join(name);
+        match OpenOptions::new()
+            .write(true)
+            .create_new(true)
+            .open(&temporary)
+        {
+            Err(error) if error.kind() == ErrorKind::AlreadyExists && attempt < 100 => attempt += 1,
+            opened => return Ok((temporary, opened?)),
+        }
+    }
+}
+
+fn folder_of(path: &Path) -> &Path {
+    match path.parent() {
+        Some(folder) if !folder.as_os_str().is_empty() => folder,
+        _ => Path::new("."),
+    }
+}
+
+#[cfg(test)]
+mod tests {
+    use super::*;
+
+    /// A folder of a test's own, removed with it.
+    struct Folder(PathBuf);
+
+    impl Folder {
+        fn new(name: &str) -> Self {
+            let path =
+                std::env::temp_dir().join(format!("sporeferry-{}-{name}", std::process::id()));
+            fs::create_dir_all(&path).unwrap();
+            Folder(path)
+        }
+
+        fn names(&self) -> Vec<String> {
+            let entries = fs::read_dir(&self.0).unwrap();
+            let name = |entry: io::Result<fs::DirEntry>| entry.unwrap().file_name();
+            entries
+                .map(|entry| name(entry).into_string().unwrap())
+                .collect()
+        }
+    }
+
+    impl Drop for Folder {
+        fn drop(&mut self) {
+            let _ = fs::remove_dir_all(&self.0);
+        }
+    }
+
+    #[test]
+    fn a_file_is_written_and_replaced() {
+        let folder = Folder::new("replaced");
+        let path = folder.0.join("a.mesh");
+        for bytes in [&b"first"[..], b"", b"second"] {
+            write_whole(&path, bytes).unwrap();
+            assert_eq!(fs::read(&path).unwrap(), bytes);
+            assert_eq!(folder.names(), ["a.mesh"]);
+        }
+    }
+
+    #[test]
+    fn nothing_is_left_where_no_file_can_be() {
+        let folder = Folder::new("refused");
+        assert!(write_whole(&folder.0, b"x").is_err());
+        assert!(write_whole(&folder.0.join("missing/a.mesh"), b"x").is_err());
+        assert!(write_whole(&folder.0.join(".."), b"x").is_err());
+        assert!(folder.names().is_empty());
+    }
+
+    #[test]
+    fn a_device_is_no_place_for_a_file() {
+        assert!(write_whole(Path::new("/dev/null"), b"x").is_err());
+    }
+}

@@ -1,0 +1,162 @@
+//! Whole parts: one piece, and a volume that comes down to the part's as cells get smaller.
+
+mod shapes;
+
+use sporeferry::cover::{cover, CoverError, Covered, Request};
+use sporeferry::inside::{enclosed_volume, is_inside};
+use sporeferry::part::Part;
+use sporeferry::Mesh;
+
+fn covered(part: &Part, cell: f32, levels: u32) -> Covered {
+    let request = Request {
+        cell,
+        levels,
+        crust: false,
+    };
+    cover(part, request).unwrap()
+}
+
+/// Meshes with each cell size and level in turn, each half as wide at the surface as the one before. Every
+/// mesh is one piece that reads back from its file, and holds more than the part; what it has
+/// beyond the part nearly halves each time.
+fn comes_down(part: &Part, steps: &[(f32, u32)]) {
+    assert_eq!(part.open_edges, 0);
+    let volume = enclosed_volume(part.surface.triangles());
+    let mut before = f64::INFINITY;
+    for (cell, levels) in steps {
+        let covered = covered(part, *cell, *levels);
+        let mesh = covered.mesh;
+        assert_eq!((covered.pieces, mesh.one_piece()), (1, Ok(true)));
+        let beyond = mesh.volume() - volume;
+        assert!(
+            0.0 < beyond && beyond < 0.6 * before,
+            "{beyond} at {cell}, before {before}"
+        );
+        before = beyond;
+        assert_eq!(Mesh::from_bytes(&mesh.to_bytes().unwrap()), Ok(mesh));
+    }
+}
+
+#[test]
+fn a_sphere() {
+    let part = Part::new(&shapes::sphere(10.0));
+    comes_down(&part, &[(8.0, 0), (4.0, 0), (2.0, 0), (1.0, 0)]);
+    comes_down(&part, &[(4.0, 0), (4.0, 1), (4.0, 2), (4.0, 3)]);
+}
+
+#[test]
+fn a_torus() {
+    let part = Part::new(&shapes::torus(10.0, 4.0));
+    comes_down(&part, &[(4.0, 0), (2.0, 0), (1.0, 0)]);
+    comes_down(&part, &[(4.0, 1), (4.0, 2), (4.0, 3)]);
+}
+
+#[test]
+fn the_socket() {
+    let file = std::fs::read(concat!(
+        env!("CARGO_MANIFEST_DIR"),
+        "/../examples/socket.stl"
+    ));
+    let part = Part::from_stl(&file.unwrap()).unwrap();
+    comes_down(&part, &[(12.0, 0), (6.0, 0), (6.0, 1), (6.0, 2)]);
+}
+
+#[test]
+fn a_part_is_covered_wherever_it_stands() {
+    let moved = |by: f32| {
+        let place = |point: [f32; 3]| point.map(|x| x + by);
+        let sphere = shapes::sphere(10.0);
+        Part::new(&sphere.iter().map(|t| t.map(place)).collect::<Vec<_>>())
+    };
+    for by in [-1000.0, 0.37, 4096.0] {
+        comes_down(&moved(by), &[(4.0, 1), (4.0, 2)]);
+    }
+}
+
+/// The cover holds its part: every corner of the surface lies in a kept cell's box, and a mesh of nested balls
+/// leaves the cavity out.
+#[test]
+fn a_cavity_stays_empty() {
+    let mut shell = shapes::sphere(10.0);
+    let cavity = shapes::sphere(6.0);
+    shell.extend(cavity.iter().map(|[a, b, c]| [*a, *c, *b]));
+    let part = Part::new(&shell);
+    let hollow = covered(&part, 2.0, 1);
+    assert_eq!((hollow.cells.groups, hollow.cells.inside), (3, 1));
+    let middle = centroids(&hollow.mesh).filter(|point| point.iter().all(|x| x.abs() < 2.0));
+    assert_eq!(middle.count(), 0);
+}
+
+fn centroids(mesh: &Mesh) -> impl Iterator<Item = [f64; 3]> + '_ {
+    mesh.cells.iter().map(|cell| {
+        let corners = cell.map(|point| mesh.points[point as usize]);
+        std::array::from_fn(|k| corners.iter().map(|p| f64::from(p[k])).sum::<f64>() / 4.0)
+    })
+}
+
+/// Kept or not as each cell deserves: crossed, or inside by its own centroid.
+#[test]
+fn one_probe_for_a_group_is_as_good_as_one_for_each_cell() {
+    let part = Part::new(&shapes::torus(10.0, 4.0));
+    let surface = &part.surface;
+    let plan = sporeferry::Plan::new(part.bounds, 2.0, 0).unwrap();
+    let grid = plan.grid(&[]).unwrap();
+    let whole = Mesh {
+        points: grid.points.clone(),
+        cells: grid.cells.clone(),
+    };
+    let deserved = centroids(&whole)
+        .zip(&grid.cells)
+        .filter(|(centroid, cell)| {
+            let corners = cell.map(|p| grid.points[p as usize].map(f64::from));
+            surface.crosses_tetrahedron(&corners) || is_inside(surface.triangles(), *centroid)
+        });
+    let covered = covered(&part, 2.0, 0);
+    assert_eq!(covered.dropped, 0);
+    assert_eq!(covered.mesh.cells.len(), deserved.count());
+}
+
+#[test]
+fn a_crust_is_hollow_and_needs_no_closed_surface() {
+    let sphere = shapes::sphere(10.0);
+    let request = |crust| Request {
+        cell: 2.0,
+        levels: 1,
+        crust,
+    };
+    let closed = Part::new(&sphere);
+    let crust = cover(&closed, request(true)).unwrap();
+    assert_eq!(crust.mesh.cells.len(), crust.cells.crossed);
+    assert!(crust.mesh.volume() < cover(&closed, request(false)).unwrap().mesh.volume());
+
+    let open = Part::new(&sphere[1..]);
+    assert!(cover(&open, request(true)).is_ok());
+    assert_eq!(
+        cover(&open, request(false)).unwrap_err(),
+        CoverError::Open(3)
+    );
+}
+
+#[test]
+fn refusals_of_the_library_come_through() {
+    let part = Part::new(&shapes::sphere(10.0));
+    let number = |cell, levels| {
+        let request = Request {
+            cell,
+            levels,
+            crust: false,
+        };
+        match cover(&part, request) {
+            Err(CoverError::Refused(refusal)) => refusal.number,
+            _ => 0,
+        }
+    };
+    assert_eq!(
+        (number(0.0, 1), number(f32::NAN, 0), number(-1.0, 2)),
+        (1, 1, 1)
+    );
+    assert_eq!(
+        (number(1.0, 6), number(0.01, 1), number(0.01, 0)),
+        (3, 4, 4)
+    );
+}
