@@ -1,19 +1,19 @@
 -- What a scale and an axis are bounded by. Assumes nothing.
-use mathlib.Core.Path.{_≡_, refl, sym, ap, _∙_, subst}
+use mathlib.Core.Path.{_≡_, refl, subst}
 use mathlib.Core.Bool.{Bool, true, false, _&&_, cond}
-use Prim.Native.Nat.{ℕ, _+_, _*_, _^_, _≤_, _<_}
-use native.Mathlib.Nat.{le-trans, mul-le-mul, mul-le-mul-left}
+use Prim.Native.Nat.{ℕ, _≤_}
+use native.Mathlib.Nat.{le-trans, le-max-left, mul-le-mul-left}
 use native.Mathlib.Omega.{arith}
 use borrow.Author.Tests.{leb-true}
-use lib.Dec.{T, leb, eqb, lit≤}
+use lib.Dec.{leb, eqb, lit≤}
 use lib.Pow.{pow-mono}
 use lib.Ieee.{Float, neg}
 use lib.Ieee.Scale.{finite}
 use Rattle.float32.proofs.Floats.{apart}
-use Rattle.float32.specs.Operations.{_+f_}
+use Rattle.float32.specs.Ceiling.{ceilTo}
+use Rattle.float32.specs.Operations.{_+f_, _/f_}
 use Rattle.plan.specs.Plan.{Small, latticeScale, octreeScale, scaleOf, originOf, extentOf, dimsOf, farOf, fitsOn, allFinite, axisOf}
 use Rattle.plan.specs.declared.Scale.{Scale}
-use Rattle.plan.specs.declared.Axis.{Axis}
 use Rattle.plan.specs.declared.Axis.the-variants.{Covers, TooLong}
 
 pub scale-small : (c : Float) (levels : ℕ) → levels ≤ 5 → Small (scaleOf c levels)
@@ -29,22 +29,23 @@ second true true r h = refl
 second true false r h = h
 second false q r h = apart h
 
--- an axis that is covered has a dimension in its bound
-pub covered : (s : Scale) (c lo hi o : Float) (n : ℕ) → Small s → axisOf s c lo hi ≡ Covers o n → n ≤ 128
-unfolding axisOf fitsOn
-covered s c lo hi o n h e = go (fitsOn s c lo hi) refl e
+-- an axis that is covered has a dimension in its bounds
+pub axis-fits : (s : Scale) (c lo hi o : Float) (n : ℕ) → axisOf s c lo hi ≡ Covers o n → (s .least ≤ n) × (n ≤ s .most)
+unfolding axisOf fitsOn dimsOf
+axis-fits s c lo hi o n e = go (fitsOn s c lo hi) refl e
   where
-    in-bound : fitsOn s c lo hi ≡ true → dimsOf s c lo hi ≤ 128
+    in-bound : fitsOn s c lo hi ≡ true → dimsOf s c lo hi ≤ s .most
     in-bound f =
-        le-trans
-        (leb-true (dimsOf s c lo hi) (s .most)
-        (second (allFinite (lo +f neg c) (hi +f c) (originOf s c lo) (extentOf s c lo hi)) (leb (dimsOf s c lo hi) (s .most)) (finite (farOf s c lo hi)) f))
-        (h .most-small)
+        leb-true (dimsOf s c lo hi) (s .most)
+        (second (allFinite (lo +f neg c) (hi +f c) (originOf s c lo) (extentOf s c lo hi)) (leb (dimsOf s c lo hi) (s .most)) (finite (farOf s c lo hi)) f)
 
-    go : (t : Bool) → fitsOn s c lo hi ≡ t → cond t (Covers (originOf s c lo) (dimsOf s c lo hi)) TooLong ≡ Covers o n → n ≤ 128
+    go : (t : Bool) → fitsOn s c lo hi ≡ t → cond t (Covers (originOf s c lo) (dimsOf s c lo hi)) TooLong ≡ Covers o n → (s .least ≤ n) × (n ≤ s .most)
     go true f g =
         let same : dimsOf s c lo hi ≡ n = cc in
-        subst (λ (k : ℕ). k ≤ 128) same (in-bound f)
+        subst (λ (k : ℕ). (s .least ≤ k) × (k ≤ s .most)) same (le-max-left (s .least) (ceilTo (s .most) (extentOf s c lo hi /f s .width)), in-bound f)
     go false f g =
         let no : _≡_ {A = ℕ} 0 1 = cc in
-        omega arith
+        absurd (omega arith)
+
+pub covered : (s : Scale) (c lo hi o : Float) (n : ℕ) → Small s → axisOf s c lo hi ≡ Covers o n → n ≤ 128
+covered s c lo hi o n h e = le-trans (axis-fits s c lo hi o n e .1) (h .most-small)

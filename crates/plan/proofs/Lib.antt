@@ -2,3 +2,4 @@
 mod Octants
 mod Axes
 pub mod Refusals
+pub mod Ready
