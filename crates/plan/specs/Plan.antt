@@ -4,7 +4,7 @@ use Prim.Native.Nat.{ℕ, zero, suc, _+_, _*_, _^_, _≤_, max}
 use mathlib.Core.Bool.{Bool, true, false, not, _&&_, cond}
 use mathlib.Core.List.{List, [], _∷_}
 use lib.Dec.{leb, ltb, eqb}
-use lib.Ieee.{Float, neg, lt}
+use lib.Ieee.{Float, binary32, toBits, neg, lt}
 use lib.Ieee.Scale.{finite}
 use lib.Ieee.Positive.{positive}
 use Rattle.float32.specs.Operations.{_+f_, _-f_, _*f_, _/f_, whole32, half32, two32}
@@ -84,6 +84,12 @@ fitsOn s c lo hi =
 
 unfoldable pub axisOf : Scale → Float → Float → Float → Axis
 axisOf s c lo hi = cond (fitsOn s c lo hi) (Covers (originOf s c lo) (dimsOf s c lo hi)) TooLong
+
+-- ---- a vertex
+
+-- where the whole number v stands along an axis, as a bit pattern
+unfoldable pub placeOf : Float → Float → ℕ → ℕ
+placeOf origin half v = toBits binary32 (origin +f whole32 v *f half)
 
 -- ---- the octants
 

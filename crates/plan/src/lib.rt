@@ -1,7 +1,7 @@
 // The plan of a grid: from a box, a cell size and a number of levels to an origin, a unit and dimensions.
 ghost use mathlib.Core.Path.{_≡_};
 ghost use Prim.Native.Nat.{_≤_, _^_, max};
-ghost use Rattle.plan.specs.Plan.{allFinite, scaleOf, axisOf, axesOf, octantsOf, Small, Few, straight, straightBox, planOf, numberOf};
+ghost use Rattle.plan.specs.Plan.{allFinite, scaleOf, axisOf, axesOf, octantsOf, Small, Few, straight, straightBox, planOf, numberOf, placeOf};
 
 // A box: its lower and its upper bounds along x, y and z.
 #[repr(C)]
@@ -211,6 +211,14 @@ fn over(s: Scale, b: Bounds, c: f32, levels: u32) -> Planned
         levels,
         octants: n as u32,
     })
+}
+
+// Where v units from the origin stand along an axis, as a bit pattern.
+pub fn place(origin: f32, half: f32, v: u32) -> u32
+    requires { ⌜ v ≤ 16777216 ⌝ }
+    ensures { λ r. ⌜ r ≡ placeOf origin half v ⌝ }
+{
+    float32::from_f32(origin + (v as f32) * half)
 }
 
 impl Plan {
