@@ -1,31 +1,30 @@
-//! Finds the proved archive and links it. `SPOREFERRY_LIB_DIR` names another folder to look in.
+//! Finds the proved archive, links it and tells the tests where it is. `SPOREFERRY_LIB` names another
+//! `libsporeferry.a` than the repository's own.
 
 use std::env;
 use std::path::{Path, PathBuf};
 
-const ARCHIVE: &str = "libsporeferry.a";
-
 fn main() {
-    println!("cargo:rerun-if-env-changed=SPOREFERRY_LIB_DIR");
-    let folder = folder();
-    let archive = folder.join(ARCHIVE);
+    println!("cargo:rerun-if-env-changed=SPOREFERRY_LIB");
+    let archive = archive();
     println!("cargo:rerun-if-changed={}", archive.display());
-    if !archive.is_file() {
+    let (true, Some(folder)) = (archive.is_file(), archive.parent()) else {
         eprintln!(
             "{} is missing. Build it in the repository's root with `rt staticlib sporeferry`, \
-             or name its folder in SPOREFERRY_LIB_DIR.",
+             or name another in SPOREFERRY_LIB.",
             archive.display()
         );
         std::process::exit(1);
-    }
+    };
     println!("cargo:rustc-link-search=native={}", folder.display());
     println!("cargo:rustc-link-lib=static=sporeferry");
+    println!("cargo:rustc-env=SPOREFERRY_ARCHIVE={}", archive.display());
 }
 
-fn folder() -> PathBuf {
-    match env::var_os("SPOREFERRY_LIB_DIR") {
-        Some(folder) => PathBuf::from(folder),
-        None => Path::new(&env::var_os("CARGO_MANIFEST_DIR").unwrap_or_default())
-            .join("../target/staticlib"),
-    }
+fn archive() -> PathBuf {
+    let own = || {
+        let here = env::var_os("CARGO_MANIFEST_DIR").unwrap_or_default();
+        Path::new(&here).join("../target/staticlib/libsporeferry.a")
+    };
+    env::var_os("SPOREFERRY_LIB").map_or_else(own, PathBuf::from)
 }
