@@ -1,0 +1,2 @@
+-- Laws that the proofs of words share.
+pub mod Words
