@@ -1,0 +1,69 @@
+//! `bench`: each step of the library beside the lifted Rust, in one run, on the same inputs.
+
+mod clock;
+mod inputs;
+mod machine;
+mod steps;
+mod table;
+
+use std::process::ExitCode;
+
+const HELP: &str = "\
+usage: bench [--small | --large] [--times N] [--write FILE]
+
+  --small       inputs of up to some hundred thousand cells only
+  --large       also tens of millions of cells (some 8 GB of memory)
+  --times N     the least of N runs (5)
+  --write FILE  write the page of speeds there as well
+";
+
+struct Options {
+    reach: inputs::Reach,
+    times: usize,
+    write: Option<String>,
+}
+
+fn options(mut args: impl Iterator<Item = String>) -> Result<Options, String> {
+    let mut options = Options {
+        reach: inputs::Reach::Usual,
+        times: 5,
+        write: None,
+    };
+    while let Some(arg) = args.next() {
+        match arg.as_str() {
+            "--small" => options.reach = inputs::Reach::Small,
+            "--large" => options.reach = inputs::Reach::Large,
+            "--times" => {
+                let times = args.next().and_then(|value| value.parse().ok());
+                options.times = times.ok_or("--times wants a number")?;
+            }
+            "--write" => options.write = Some(args.next().ok_or("--write wants a file")?),
+            _ => return Err(HELP.into()),
+        }
+    }
+    Ok(options)
+}
+
+fn main() -> ExitCode {
+    let options = match options(std::env::args().skip(1)) {
+        Ok(options) => options,
+        Err(words) => {
+            eprintln!("{words}");
+            return ExitCode::from(2);
+        }
+    };
+    let mut table = table::Table::new(options.times);
+    steps::plans(&mut table);
+    for input in inputs::all(options.reach) {
+        steps::on_input(&input, &mut table);
+    }
+    let page = table.page(&machine::words());
+    println!("{page}");
+    if let Some(file) = options.write {
+        if let Err(error) = std::fs::write(&file, page) {
+            eprintln!("{file}: {error}");
+            return ExitCode::FAILURE;
+        }
+    }
+    ExitCode::SUCCESS
+}

@@ -1,0 +1,329 @@
+//! Both sides of each step, timed. A step that is not in the library is passed over.
+
+use crate::clock::timed;
+use crate::inputs::Input;
+use crate::table::Table;
+use lifted::lent::MeshOracle;
+use lifted::math::Vector;
+use lifted::transformation::volume_mesh::cover_octree::doors::{refined_octree, Tree};
+use lifted::transformation::volume_mesh::isosurface_stuffing::doors::{
+    cover_grid, domain, flood_fill_inside, lattice_over, uniform_grid,
+};
+use lifted::transformation::volume_mesh::isosurface_stuffing::BackgroundGrid;
+use lifted::transformation::volume_mesh::{MeshEnclosure, VolumeMesh, VolumeMeshParameters};
+use oracle::calls::{
+    Call, ComponentsCall, Format, GridCall, Input as MeshInput, KeepCall, OnePieceCall, PlanCall,
+    ReadCall, RefineCall, RepresentativesCall, WriteCall,
+};
+use oracle::expected::plan::{aabb, octree, parameters};
+use oracle::lent::{Entry, Lent};
+use oracle::random::Random;
+use oracle::steps::{boxes, in_library};
+use std::hint::black_box;
+use std::rc::Rc;
+
+/// A table lent dirty.
+fn dirty<T: Entry>(len: usize) -> Lent<T> {
+    Lent::new(&vec![T::GUARD_VALUE; len])
+}
+
+/// Times a call of the library that must be answered.
+fn answered<C: Call<Outcome = oracle::library::Answer>>(call: &mut C) -> f64 {
+    let (answer, time) = timed(|| call.library());
+    assert_eq!(answer.number, 0, "{} refused: {}", call.step(), call.told());
+    time
+}
+
+/// A hundred thousand plans of boxes of every kind that the Rust takes too.
+pub fn plans(table: &mut Table) {
+    if !in_library(&["sf_plan"]) {
+        return;
+    }
+    let mut random = Random::new(1);
+    let calls: Vec<PlanCall> = (0..100_000)
+        .map(|_| boxes::small(&mut random, 0).0)
+        .collect();
+    let rust = || {
+        timed(|| {
+            for call in &calls {
+                black_box(lattice_over(domain(aabb(&call.bounds), call.c), call.c));
+            }
+        })
+        .1
+    };
+    let ours = || {
+        timed(|| {
+            for call in &calls {
+                black_box(call.clone().library());
+            }
+        })
+        .1
+    };
+    table.row("plan", "small boxes, L 0", "100,000 plans", rust, ours);
+}
+
+/// Every step on one input.
+pub fn on_input(input: &Input, table: &mut Table) {
+    let tree = (input.plan.levels > 0).then(|| refine(input, table));
+    let grid = grid(input, tree, table);
+    let mesh = Meshed::new(input, &grid);
+    mesh.representatives(table);
+    mesh.keep(table, true);
+    mesh.keep(table, false);
+    mesh.components(table);
+    mesh.one_piece(table);
+    mesh.files(table);
+}
+
+fn thousands(n: usize) -> String {
+    let digits = n.to_string();
+    let mut text = String::new();
+    for (at, digit) in digits.chars().enumerate() {
+        if at > 0 && (digits.len() - at) % 3 == 0 {
+            text.push(',');
+        }
+        text.push(digit);
+    }
+    text
+}
+
+fn refine(input: &Input, table: &mut Table) -> Tree {
+    let plan = &input.plan;
+    let refined = || {
+        let tree = octree(&plan.bounds, plan.c, plan.levels);
+        let oracle = MeshOracle::of_octants(tree.layout(), &input.crossing);
+        timed(|| refined_octree(&oracle, tree))
+    };
+    if in_library(&["sf_refine"]) {
+        let octants = input.crossing.len();
+        let mut call = RefineCall {
+            plan: plan.clone(),
+            crossing: Lent::new(&input.crossing),
+            split: dirty(octants),
+        };
+        let size = format!("{} octants", thousands(octants));
+        table.row(
+            "refine",
+            &input.name,
+            &size,
+            || refined().1,
+            || answered(&mut call),
+        );
+    }
+    refined().0
+}
+
+fn rust_grid(input: &Input, tree: &Option<Tree>) -> (BackgroundGrid, f64) {
+    let plan = &input.plan;
+    match tree {
+        Some(tree) => timed(|| tree.background_grid()),
+        None => timed(|| uniform_grid(domain(aabb(&plan.bounds), plan.c), plan.c)),
+    }
+}
+
+fn grid(input: &Input, tree: Option<Tree>, table: &mut Table) -> BackgroundGrid {
+    let (found, _) = rust_grid(input, &tree);
+    if !in_library(&["sf_grid"]) {
+        return found;
+    }
+    let (cells, vertices) = (found.cells.len(), found.points.len());
+    let split = tree.as_ref().map_or(Vec::new(), |tree| tree.split_table());
+    let mut call = GridCall {
+        plan: input.plan.clone(),
+        split: Lent::new(&split),
+        found: Rc::new(Err(0)),
+        cells: dirty(4 * cells),
+        triples: dirty(3 * vertices),
+        points: dirty(3 * vertices),
+        work: dirty(4 * cells),
+    };
+    let size = format!(
+        "{} cells, {} vertices",
+        thousands(cells),
+        thousands(vertices)
+    );
+    table.row(
+        "grid",
+        &input.name,
+        &size,
+        || rust_grid(input, &tree).1,
+        || answered(&mut call),
+    );
+    found
+}
+
+/// A grid as a mesh, with answers for its cells.
+struct Meshed<'a> {
+    name: &'a str,
+    size: String,
+    grid: &'a BackgroundGrid,
+    input: MeshInput,
+    crossing: Vec<u8>,
+    probe: Vec<u8>,
+}
+
+impl<'a> Meshed<'a> {
+    fn new(input: &'a Input, grid: &'a BackgroundGrid) -> Self {
+        let away = |p: &Vector| {
+            let d = *p - Vector::splat(input.centre);
+            d.dot(d).sqrt() - input.radius
+        };
+        let outside: Vec<bool> = grid.points.iter().map(|p| away(p) > 0.0).collect();
+        let count = |cell: &[u32; 4]| cell.iter().filter(|v| outside[**v as usize]).count();
+        let points: Vec<u32> = grid.points.iter().flat_map(|p| p.bits()).collect();
+        Self {
+            name: &input.name,
+            size: format!("{} cells", thousands(grid.cells.len())),
+            grid,
+            input: MeshInput::new(&points, grid.cells.as_flattened()),
+            crossing: grid
+                .cells
+                .iter()
+                .map(|c| (count(c) % 4 != 0).into())
+                .collect(),
+            probe: grid.cells.iter().map(|c| (count(c) == 0).into()).collect(),
+        }
+    }
+
+    fn counts(&self) -> (usize, usize) {
+        (self.grid.points.len(), self.grid.cells.len())
+    }
+
+    fn representatives(&self, table: &mut Table) {
+        if !in_library(&["sf_representatives"]) {
+            return;
+        }
+        let (points, cells) = self.counts();
+        let crossed: Vec<bool> = self.crossing.iter().map(|byte| *byte == 1).collect();
+        let rust = || {
+            let oracle = MeshOracle::of_cells(&self.crossing, &self.probe);
+            timed(|| flood_fill_inside(&oracle, &self.grid.points, &self.grid.cells, &crossed)).1
+        };
+        let mut call = RepresentativesCall {
+            input: self.input.clone(),
+            crossing: Lent::new(&self.crossing),
+            numbers: dirty(cells),
+            centroids: dirty(3 * cells),
+            work: dirty(cells + points),
+        };
+        table.row("representatives", self.name, &self.size, rust, || {
+            answered(&mut call)
+        });
+    }
+
+    fn copied(&self) -> BackgroundGrid {
+        BackgroundGrid {
+            points: self.grid.points.clone(),
+            cells: self.grid.cells.clone(),
+            coords: Vec::new(),
+        }
+    }
+
+    fn keep(&self, table: &mut Table, cover: bool) {
+        let (step, function, enclosure) = match cover {
+            true => ("keep_cover", "sf_keep_cover", MeshEnclosure::Cover),
+            false => ("keep_crust", "sf_keep_crust", MeshEnclosure::Crust),
+        };
+        if !in_library(&[function]) {
+            return;
+        }
+        let (points, cells) = self.counts();
+        let parameters = VolumeMeshParameters {
+            enclosure,
+            ..parameters(0.01, 0)
+        };
+        let rust = || {
+            let oracle = MeshOracle::of_cells(&self.crossing, &self.probe);
+            let grid = self.copied();
+            timed(|| cover_grid(grid, &oracle, &parameters)).1
+        };
+        let mut call = KeepCall {
+            c: 0.01,
+            input: self.input.clone(),
+            crossing: Lent::new(&self.crossing),
+            probe: cover.then(|| Lent::new(&self.probe)),
+            kept_points: dirty(3 * points),
+            kept_cells: dirty(4 * cells),
+            work: dirty(cells + 2 * points),
+        };
+        table.row(step, self.name, &self.size, rust, || answered(&mut call));
+    }
+
+    fn volume_mesh(&self) -> VolumeMesh {
+        VolumeMesh {
+            vertices: self.grid.points.clone(),
+            cells: self.grid.cells.clone(),
+        }
+    }
+
+    fn components(&self, table: &mut Table) {
+        if !in_library(&["sf_components"]) {
+            return;
+        }
+        let (points, cells) = self.counts();
+        let mesh = self.volume_mesh();
+        let mut call = ComponentsCall {
+            input: self.input.clone(),
+            numbers: dirty(cells),
+            work: dirty(2 * points),
+        };
+        let rust = || timed(|| mesh.connected_components()).1;
+        table.row("components", self.name, &self.size, rust, || {
+            answered(&mut call)
+        });
+    }
+
+    fn one_piece(&self, table: &mut Table) {
+        if !in_library(&["sf_one_piece"]) {
+            return;
+        }
+        let mesh = self.volume_mesh();
+        let mut call = OnePieceCall {
+            input: self.input.clone(),
+            work: dirty(2 * self.counts().0),
+        };
+        let rust = || timed(|| mesh.connected_components()).1;
+        table.row("one_piece", self.name, &self.size, rust, || {
+            answered(&mut call)
+        });
+    }
+
+    fn files(&self, table: &mut Table) {
+        for (format, functions) in [
+            (Format::Mesh, ["sf_write_mesh", "sf_read_mesh"]),
+            (Format::Vtk, ["sf_write_vtk", "sf_read_vtk"]),
+        ] {
+            if in_library(&functions) {
+                self.file(format, table);
+            }
+        }
+    }
+
+    fn file(&self, format: Format, table: &mut Table) {
+        let (points, cells) = self.counts();
+        let file = format.encode(self.input.mesh());
+        let size = format!("{}, {} bytes", self.size, thousands(file.len()));
+        let mut copy = vec![1; file.len()];
+        let mut copied = || timed(|| copy.copy_from_slice(black_box(&file))).1;
+        let mut write = WriteCall {
+            format,
+            input: self.input.clone(),
+            file: dirty(file.len()),
+            work: dirty(2 * points),
+        };
+        let (writer, reader) = (format.writer(), format.reader());
+        table.row(writer, self.name, &size, &mut copied, || {
+            answered(&mut write)
+        });
+        let mut read = ReadCall {
+            format,
+            file: Lent::new(&file),
+            points: dirty(3 * points),
+            cells: dirty(4 * cells),
+            work: dirty(2 * points),
+        };
+        table.row(reader, self.name, &size, &mut copied, || {
+            answered(&mut read)
+        });
+    }
+}
