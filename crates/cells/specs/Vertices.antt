@@ -345,7 +345,7 @@ module _ (l : ℕ) (d : Pos) (t : Tree) where
       (between-hold x (frame a (end s) 0 0) (frame a (end s) 1 1) (two-lt _ (frame-two a _ _ _ (end-lt s) (omega arith) (omega arith))) (two-lt _ (frame-two a _ _ _ (end-lt s) (omega arith) (omega arith))))
       (beside-in (counts l d (suc n)) a s x (p .inside) r) e (beside-hold (counts l d (suc n)) a s x r)
 
-  side-is-split : (m : ℕ) (x : Pos) (a : Axis) (s : Bool) → side l d t m x a s ≡ split → (reaches (counts l d m a) s (x a) ≡ true) × (t m (beside a s x) ≡ true)
+  pub side-is-split : (m : ℕ) (x : Pos) (a : Axis) (s : Bool) → side l d t m x a s ≡ split → (reaches (counts l d m a) s (x a) ≡ true) × (t m (beside a s x) ≡ true)
   unfolding side
   side-is-split m x a s h = go (reaches (counts l d m a) s (x a)) (t m (beside a s x)) (descent t m (beside a s x) (l - m)) h
     where

@@ -1,0 +1,23 @@
+use borrow.Author.Needs.{needs}
+use mathlib.Core.Path.{sym, _∙_}
+use Rattle.sides.proofs.Laws.{either-first, either-second}
+use Rattle.sides.proofs.either_in.Statement.{statement}
+use Rattle.sides.proofs.either_in.Tie as tie
+use Rattle.sides.proofs.either_in.Reads as reads
+use Rattle.sides.proofs.either_in.Lts as lts
+use Rattle.sides.proofs.split_in.Reads as split-in-reads
+
+split-in-requires : tie.Need-split-in-requires
+split-in-requires c κs = search needs
+
+returns : tie.Need-returns
+returns c = either-first _ _ _ _ _ _ _ (sym (c .before .split-in .ensures) ∙ c .if1 .taken)
+
+split-in-requires-2 : tie.Need-split-in-requires-2
+split-in-requires-2 c κs = search needs
+
+returns-2 : tie.Need-returns-2
+returns-2 c = c .split-in2 .ensures ∙ either-second _ _ _ _ _ _ _ (sym (c .before .before .split-in .ensures) ∙ c .before .if1 .left)
+
+pub either-in-spec : {M : Type 1} → statement M
+either-in-spec = tie.close (tie.spec split-in-requires returns split-in-requires-2 returns-2)
