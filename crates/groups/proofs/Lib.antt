@@ -1,0 +1,3 @@
+-- Laws that the proofs of groups share.
+pub mod Highest
+pub mod Noting

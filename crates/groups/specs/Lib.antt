@@ -1,0 +1,2 @@
+-- The definitions that the contracts of groups cite.
+pub mod Settled
