@@ -2,15 +2,16 @@
 use mathlib.Core.Path.{_≡_, refl, ap, sym, _∙_, subst}
 use mathlib.Core.Bool.{Bool, true, false}
 use mathlib.Core.List.{List}
-use Prim.Native.Nat.{ℕ, zero, suc, _+_, _-_, _*_, _/_, _%_, _^_, _≤_, _<_}
+use Prim.Native.Nat.{ℕ, zero, suc, _+_, _-_, _*_, _/_, _^_, _≤_, _<_}
 use native.Mathlib.Omega.{arith}
-use native.Mathlib.Nat.{mul-le-mul, two-pow-succ, lt-of-lt-of-le, lt-of-le-of-lt, mod-eq-of-lt, one-mul}
+use native.Mathlib.Nat.{mul-le-mul, two-pow-succ, lt-of-lt-of-le, one-mul}
 use native.Mathlib.Numerals.{add-one}
-use lib.Dec.{eqb, lit<}
+use lib.Dec.{eqb}
 use lib.ListN.{length}
 use lib.Pow.{pow-pos, pow-mono}
 use Rattle.octants.specs.Oct.{Axis, ax, ay, az, Pos, pos}
 use Rattle.octants.specs.Table.{off, size, depth, read, bit}
+use Rattle.octants.specs.Levels.{Dims}
 use Rattle.cells.specs.Cells.{leafCells}
 use Rattle.cells.specs.LeafSome.{IsLeaf}
 use Rattle.sides.specs.declared.Level.{Level}
@@ -21,11 +22,8 @@ use Rattle.sides.specs.Reading.{Held, levelOf, facing, sidesIn, givenAt,
 use Rattle.sides.specs.Told.{Taken, sidesAt}
 use Rattle.sides.proofs.Ties.{level-held, sides-read, leaf-count}
 
-pub shifted : (d : ℕ) → d ≤ 5 → (1 * 2 ^ d % 2 ^ 64 ≡ 2 ^ d) × (1 * 2 ^ d % 2 ^ 64 ≤ 32)
-shifted d h =
-    let w : 2 ^ d ≤ 32 = pow-mono h in
-    let e : 1 * 2 ^ d % 2 ^ 64 ≡ 2 ^ d = rw one-mul (mod-eq-of-lt (lt-of-le-of-lt w (lit< tt))) in
-    (e, omega arith)
+pub unit-width : (w d : ℕ) → w ≡ 1 * 2 ^ d → d ≤ 5 → (w ≡ 2 ^ d) × (w ≤ 32)
+unit-width w d e h = let g : 2 ^ d ≤ 32 = pow-mono h in (omega arith, omega arith)
 
 abbrev cubed : ℕ → ℕ
 cubed w = w * w * w
@@ -62,8 +60,13 @@ pub record Small (nx ny nz w : ℕ) : Type 0 where
   pub yw : ny * w ≤ 2048
   pub zw : nz * w ≤ 2048
 
-pub small : (nx ny nz w d : ℕ) → nx ≤ 64 → ny ≤ 64 → nz ≤ 64 → w ≡ 2 ^ d → w ≤ 32 → Small nx ny nz w
-small nx ny nz w d hx hy hz e hw =
+pub small : (nx ny nz w d : ℕ) → Dims nx ny nz → w ≡ 1 * 2 ^ d → d ≤ 5 → Small nx ny nz w
+small nx ny nz w d g f k =
+    let hx : nx ≤ 64 = g .x-few in
+    let hy : ny ≤ 64 = g .y-few in
+    let hz : nz ≤ 64 = g .z-few in
+    let hw : w ≤ 32 = unit-width w d f k .1 in
+    let e : w ≡ 2 ^ d = unit-width w d f k .0 in
     let h1 : 1 ≤ w = omega (arith, e, pow-pos d) in
     let a1 : nx * ny ≤ 64 * 64 = mul-le-mul hx hy in
     let a2 : nx * ny * nz ≤ 64 * 64 * 64 = mul-le-mul a1 hz in
@@ -91,11 +94,11 @@ unfolding levelOf
 level-none nx ny nz l zero e = refl
 level-none nx ny nz l (suc m) e = absurd (omega arith)
 
-pub level-is : (nx ny nz l m k w : ℕ) → (m ≡ 0 → ⊥) → k ≡ l - m → w ≡ 2 ^ k
+pub level-is : (nx ny nz l m k w : ℕ) → (m ≡ 0 → ⊥) → k ≡ l - m → w ≡ 1 * 2 ^ k
     → record { start = nx * ny * nz * ((w * w * w - 1) / 7); nx = nx * w; ny = ny * w; nz = nz * w } ≡ levelOf (pos nx ny nz) l m
 unfolding levelOf
 level-is nx ny nz l zero k w n e f = absurd (n refl)
-level-is nx ny nz l (suc m) k w n e f = rw (f, e, off-closed (pos nx ny nz) (l - suc m)) refl
+level-is nx ny nz l (suc m) k w n e f = rw (f, one-mul, e, off-closed (pos nx ny nz) (l - suc m)) refl
 
 -- a leaf's place is small
 pub place-small : (s : List ℕ) (nx ny nz l m i j k : ℕ) → Taken s nx ny nz l → IsLeaf l (pos nx ny nz) (read (pos nx ny nz) l s) m (pos i j k)
@@ -103,9 +106,9 @@ pub place-small : (s : List ℕ) (nx ny nz l m i j k : ℕ) → Taken s nx ny nz
 place-small s nx ny nz l m i j k h leaf =
     let e : l - m ≤ 5 = omega (arith, h .few) in
     let w : 2 ^ (l - m) ≤ 32 = pow-mono e in
-    let x : nx * 2 ^ (l - m) ≤ 64 * 32 = mul-le-mul (h .wide) w in
-    let y : ny * 2 ^ (l - m) ≤ 64 * 32 = mul-le-mul (h .deep) w in
-    let z : nz * 2 ^ (l - m) ≤ 64 * 32 = mul-le-mul (h .tall) w in
+    let x : nx * 2 ^ (l - m) ≤ 64 * 32 = mul-le-mul (h .dims .x-few) w in
+    let y : ny * 2 ^ (l - m) ≤ 64 * 32 = mul-le-mul (h .dims .y-few) w in
+    let z : nz * 2 ^ (l - m) ≤ 64 * 32 = mul-le-mul (h .dims .z-few) w in
     (lt-of-lt-of-le (leaf .inside ax) x, lt-of-lt-of-le (leaf .inside ay) y, lt-of-lt-of-le (leaf .inside az) z)
 
 module _ (s : List ℕ) (nx ny nz l m i j k : ℕ) (h : Taken s nx ny nz l) (leaf : IsLeaf l (pos nx ny nz) (read (pos nx ny nz) l s) m (pos i j k)) where
@@ -115,10 +118,10 @@ module _ (s : List ℕ) (nx ny nz l m i j k : ℕ) (h : Taken s nx ny nz l) (lea
     subst (Held s) (sym f) (level-held s nx ny nz l (m + 1) h (omega (arith, leaf .fits))),
   )
 
-  pub sides-link : (here above : Level) (w : ℕ) → here ≡ levelOf (pos nx ny nz) l m → above ≡ levelOf (pos nx ny nz) l (m + 1) → w ≡ 2 ^ (l - m)
+  pub sides-link : (here above : Level) (w : ℕ) → here ≡ levelOf (pos nx ny nz) l m → above ≡ levelOf (pos nx ny nz) l (m + 1) → w ≡ 1 * 2 ^ (l - m)
       → sidesIn s here above (eqb m l) (pos (nx * w) (ny * w) (nz * w)) (pos i j k) ≡ sidesAt l (pos nx ny nz) (read (pos nx ny nz) l s) m (pos i j k)
   unfolding sidesIn
-  sides-link here above w e f g = rw (e, f, g, add-one m) (sides-read (pos nx ny nz) l s (h .graded) m (pos i j k) leaf)
+  sides-link here above w e f g = rw (e, f, g, one-mul, add-one m) (sides-read (pos nx ny nz) l s (h .graded) m (pos i j k) leaf)
 
   pub count-link : (f : Sides) (a b c d e g : ℕ) → f ≡ sidesAt l (pos nx ny nz) (read (pos nx ny nz) l s) m (pos i j k)
       → a ≡ givenAt (f .x0) → b ≡ givenAt (f .x1) → c ≡ givenAt (f .y0) → d ≡ givenAt (f .y1) → e ≡ givenAt (f .z0) → g ≡ givenAt (f .z1)

@@ -6,6 +6,7 @@ use Prim.Native.Nat.{ℕ, _≤_}
 use lib.ListN.{length}
 use Rattle.octants.specs.Oct.{Axis, ax, ay, az, Pos, pos, Tree, Closed}
 use Rattle.octants.specs.Table.{off, read}
+use Rattle.octants.specs.Levels.{Dims}
 use Rattle.cells.specs.Cells.{Face, face, faceCentre, middle, turnsTo, finer, Side, split, equal, coarser, border, side}
 use Rattle.sides.specs.declared.Beside.{Beside}
 use Rattle.sides.specs.declared.Beside.the-variants.{Split, Equal, Given, Coarser, Border}
@@ -38,9 +39,7 @@ sidesAt l d t m x =
 
 -- a split table that the grid takes: of l levels over few enough roots, whole, and graded
 pub record Taken (s : List ℕ) (nx ny nz l : ℕ) : Type 0 where
-  pub wide : nx ≤ 64
-  pub deep : ny ≤ 64
-  pub tall : nz ≤ 64
+  pub dims : Dims nx ny nz
   pub some : 1 ≤ l
   pub few : l ≤ 5
   pub whole : length s ≡ off (pos nx ny nz) l

@@ -1,11 +1,14 @@
 // Finds in the split table what stands beside a leaf of a graded octree, by local tests: two bytes decide a side, parity the
 // rotation, two octants a midpoint.
+use octree::along;
+use octree::hits;
 ghost use mathlib.Core.Path.{_≡_};
-ghost use mathlib.Core.Bool.{Bool, _||_};
-ghost use Prim.Native.Nat.{ℕ, _+_, _-_, _*_, _^_, _≤_, _<_};
+ghost use mathlib.Core.Bool.{Bool};
+ghost use Prim.Native.Nat.{ℕ, _-_, _^_, _≤_, _<_};
 ghost use lib.ListN.{length};
-ghost use Rattle.octants.specs.Oct.{pos, hit};
-ghost use Rattle.octants.specs.Table.{at, size, read, bit};
+ghost use Rattle.octants.specs.Oct.{pos};
+ghost use Rattle.octants.specs.Table.{read, bit};
+ghost use Rattle.octants.specs.Levels.{Dims};
 ghost use Rattle.cells.specs.Cells.{reaches, stepped, leafCells};
 ghost use Rattle.cells.specs.Sides.{turnAt};
 ghost use Rattle.cells.specs.LeafSome.{IsLeaf};
@@ -42,42 +45,7 @@ pub struct Sides {
     pub z1: Beside,
 }
 
-// The place of octant (x, y, z) in a level with nx by ny octants to a layer.
-fn slot_of(nx: usize, ny: usize, x: usize, y: usize, z: usize) -> usize
-    requires { ⌜ (nx * ny < 2 ^ 63) × (x + y * nx + z * (nx * ny) < 2 ^ 63) ⌝ }
-    ensures { λ r. ⌜ r ≡ x + y * nx + z * (nx * ny) ⌝ }
-{
-    x + y * nx + z * (nx * ny)
-}
-
-// Whether octant (x, y, z) is there and split, in the level of nx, ny, nz octants that begins at `start`.
-fn hits(
-    split: &[u8],
-    start: usize,
-    nx: usize,
-    ny: usize,
-    nz: usize,
-    x: usize,
-    y: usize,
-    z: usize,
-) -> bool
-    requires { ⌜ start + size (pos nx ny nz) ≤ length (now split) ⌝ }
-    ensures { λ r. ⌜ r ≡ hit (pos nx ny nz) (at (now (split .entry)) start (pos nx ny nz)) (pos x y z) ⌝ }
-{
-    if nx <= x {
-        return false;
-    }
-    if ny <= y {
-        return false;
-    }
-    if nz <= z {
-        return false;
-    }
-    let i = start + slot_of(nx, ny, x, y, z);
-    split[i] == 1
-}
-
-// The same for the octant at u along an axis, v along the next and w along the one after it.
+// Whether the octant at u along an axis, v along the next and w along the one after it is there and split.
 fn split_in(split: &[u8], level: Level, axis: u32, u: usize, v: usize, w: usize) -> bool
     requires { ⌜ Held (now split) level ⌝ }
     ensures { λ r. ⌜ r ≡ splitIn (now (split .entry)) level (axisOf axis) u v w ⌝ }
@@ -233,14 +201,6 @@ fn sides_of(
     }
 }
 
-// 2^d.
-fn pow2(d: usize) -> usize
-    requires { ⌜ d ≤ 5 ⌝ }
-    ensures { λ r. ⌜ (r ≡ 2 ^ d) × (r ≤ 32) ⌝ }
-{
-    1 << d
-}
-
 // How many levels stand above a level, where there are any.
 fn depth_of(levels: usize, m: usize) -> usize
     ensures { λ r. ⌜ r ≡ levels - m ⌝ }
@@ -253,7 +213,7 @@ fn depth_of(levels: usize, m: usize) -> usize
 
 // A level of the table of so many levels over nx, ny, nz roots.
 fn level_of(nx: usize, ny: usize, nz: usize, levels: usize, m: usize) -> Level
-    requires { ⌜ (nx ≤ 64) × (ny ≤ 64) × (nz ≤ 64) × (levels ≤ 5) ⌝ }
+    requires { ⌜ Dims nx ny nz × (levels ≤ 5) ⌝ }
     ensures { λ r. ⌜ r ≡ levelOf (pos nx ny nz) levels m ⌝ }
 {
     if m == 0 {
@@ -264,7 +224,8 @@ fn level_of(nx: usize, ny: usize, nz: usize, levels: usize, m: usize) -> Level
             nz: 0,
         };
     }
-    let w = pow2(depth_of(levels, m));
+    let k = depth_of(levels, m);
+    let w = along(1, k);
     Level {
         start: nx * ny * nz * ((w * w * w - 1) / 7),
         nx: nx * w,
@@ -291,7 +252,7 @@ pub fn sides_at(
 {
     let here = level_of(nx, ny, nz, levels, m);
     let above = level_of(nx, ny, nz, levels, m + 1);
-    let w = pow2(levels - m);
+    let w = along(1, levels - m);
     let root = m == levels;
     sides_of(split, here, above, root, nx * w, ny * w, nz * w, i, j, k)
 }

@@ -5,7 +5,6 @@ use Rattle.sides.proofs.split_in.Statement.{statement}
 use Rattle.sides.proofs.split_in.Tie as tie
 use Rattle.sides.proofs.split_in.Reads as reads
 use Rattle.sides.proofs.split_in.Lts as lts
-use Rattle.sides.proofs.hits.Reads as hits-reads
 
 hits-requires : tie.Need-hits-requires
 hits-requires c κs = search needs
