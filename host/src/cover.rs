@@ -138,7 +138,7 @@ fn crossed_octants(surface: &Surface, plan: &Plan) -> (Vec<u8>, usize) {
         Vec::new()
     };
     for level in (1..=plan.levels()).rev() {
-        let told = answers("octants", waiting.len(), CHUNK, |n| {
+        let told = answers("octants asked", waiting.len(), CHUNK, |n| {
             let (low, high) = octant_box(plan, level, waiting[n]);
             surface.crosses_box(low, high)
         });
@@ -175,7 +175,7 @@ fn octant_box(plan: &Plan, level: u32, octant: [u32; 3]) -> (Point, Point) {
 }
 
 fn crossed_cells(surface: &Surface, grid: &Grid) -> Vec<u8> {
-    answers("cells", grid.cells.len(), CHUNK, |n| {
+    answers("cells asked", grid.cells.len(), CHUNK, |n| {
         let cell = grid.cells[n].map(|point| wide(grid.points[point as usize]));
         surface.crosses_tetrahedron(&cell)
     })
@@ -197,7 +197,7 @@ fn keep(
         return Ok((grid.keep_crust(request.cell, crossing)?, cells));
     }
     let groups = grid.representatives(crossing)?;
-    let told = answers("groups", groups.len(), 1, |n| {
+    let told = answers("groups asked", groups.len(), 1, |n| {
         is_inside(surface.triangles(), wide(groups[n].centroid))
     });
     let mut probe = vec![0; grid.cells.len()];
