@@ -1,6 +1,6 @@
 //! The background grid, and the steps that keep a mesh of it.
 
-use crate::ffi;
+use crate::lent;
 use crate::mesh::Mesh;
 use crate::plan::fitted;
 use crate::refusal::{Refusal, Step};
@@ -64,26 +64,17 @@ impl Grid {
         crossing: &[u8],
         room: usize,
     ) -> Result<Vec<Representative>, Refusal> {
-        let (points, cells) = (self.points.as_flattened(), self.cells.as_flattened());
         let mut numbers = vec![0; room];
         let mut centroids = vec![[0.0; 3]; room];
         let mut work = vec![0; self.cells.len() + self.points.len()];
-        let answer = unsafe {
-            ffi::sf_representatives(
-                points.as_ptr(),
-                points.len(),
-                cells.as_ptr(),
-                cells.len(),
-                crossing.as_ptr(),
-                crossing.len(),
-                numbers.as_mut_ptr(),
-                numbers.len(),
-                centroids.as_flattened_mut().as_mut_ptr(),
-                3 * room,
-                work.as_mut_ptr(),
-                work.len(),
-            )
-        };
+        let answer = lent::representatives(
+            self.points.as_flattened(),
+            self.cells.as_flattened(),
+            crossing,
+            &mut numbers,
+            centroids.as_flattened_mut(),
+            &mut work,
+        );
         let [count, ..] = answer.told(Step::Representatives)?;
         let pairs = numbers.into_iter().zip(centroids).take(count as usize);
         Ok(pairs
@@ -108,27 +99,17 @@ impl Grid {
     /// assert_eq!(grid.keep_cover(1.0, &[0], &[0]).unwrap_err().number, 10);
     /// ```
     pub fn keep_cover(&self, cell: f32, crossing: &[u8], probe: &[u8]) -> Result<Kept, Refusal> {
-        let (points, cells) = (self.points.as_flattened(), self.cells.as_flattened());
         let mut rooms = KeptRooms::for_grid(self);
-        let answer = unsafe {
-            ffi::sf_keep_cover(
-                cell,
-                points.as_ptr(),
-                points.len(),
-                cells.as_ptr(),
-                cells.len(),
-                crossing.as_ptr(),
-                crossing.len(),
-                probe.as_ptr(),
-                probe.len(),
-                rooms.points.as_flattened_mut().as_mut_ptr(),
-                points.len(),
-                rooms.cells.as_flattened_mut().as_mut_ptr(),
-                cells.len(),
-                rooms.work.as_mut_ptr(),
-                rooms.work.len(),
-            )
-        };
+        let answer = lent::keep_cover(
+            cell,
+            self.points.as_flattened(),
+            self.cells.as_flattened(),
+            crossing,
+            probe,
+            rooms.points.as_flattened_mut(),
+            rooms.cells.as_flattened_mut(),
+            &mut rooms.work,
+        );
         Ok(rooms.kept(answer.told(Step::KeepCover)?))
     }
 
@@ -143,25 +124,16 @@ impl Grid {
     /// assert_eq!((kept.mesh.points.len(), kept.mesh.cells.len()), (4, 1));
     /// ```
     pub fn keep_crust(&self, cell: f32, crossing: &[u8]) -> Result<Kept, Refusal> {
-        let (points, cells) = (self.points.as_flattened(), self.cells.as_flattened());
         let mut rooms = KeptRooms::for_grid(self);
-        let answer = unsafe {
-            ffi::sf_keep_crust(
-                cell,
-                points.as_ptr(),
-                points.len(),
-                cells.as_ptr(),
-                cells.len(),
-                crossing.as_ptr(),
-                crossing.len(),
-                rooms.points.as_flattened_mut().as_mut_ptr(),
-                points.len(),
-                rooms.cells.as_flattened_mut().as_mut_ptr(),
-                cells.len(),
-                rooms.work.as_mut_ptr(),
-                rooms.work.len(),
-            )
-        };
+        let answer = lent::keep_crust(
+            cell,
+            self.points.as_flattened(),
+            self.cells.as_flattened(),
+            crossing,
+            rooms.points.as_flattened_mut(),
+            rooms.cells.as_flattened_mut(),
+            &mut rooms.work,
+        );
         Ok(rooms.kept(answer.told(Step::KeepCrust)?))
     }
 }

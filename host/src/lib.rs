@@ -6,7 +6,8 @@
 //! `include/sporeferry.h` and gives its answer or a [`Refusal`]. That library is proved; these bindings
 //! and the modules below are ordinary Rust, tested and not proved.
 //!
-//! [`cover::cover`] goes the whole way from a part's surface to its mesh.
+//! [`lent`] has the same functions over tables of the caller's own. [`cover::cover`] goes the whole way from a
+//! part's surface to its mesh.
 //!
 //! ```
 //! use sporeferry::{Bounds, Plan};
@@ -22,9 +23,9 @@
 mod answers;
 pub mod cover;
 pub mod crossing;
-mod ffi;
 mod grid;
 pub mod inside;
+pub mod lent;
 mod mesh;
 pub mod part;
 mod plan;

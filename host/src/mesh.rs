@@ -1,6 +1,6 @@
 //! Meshes: component numbers, one piece, and the mesh file.
 
-use crate::ffi;
+use crate::lent;
 use crate::plan::fitted;
 use crate::refusal::{Refusal, Step};
 use crate::vector::{cross, dot, sub, wide};
@@ -34,21 +34,9 @@ impl Mesh {
     /// assert_eq!((components.numbers, components.count), (vec![0, 1, 0], 2));
     /// ```
     pub fn components(&self) -> Result<Components, Refusal> {
-        let (points, cells) = (self.points.as_flattened(), self.cells.as_flattened());
+        let (points, cells) = self.tables();
         let mut numbers = vec![0; self.cells.len()];
-        let mut work = self.work();
-        let answer = unsafe {
-            ffi::sf_components(
-                points.as_ptr(),
-                points.len(),
-                cells.as_ptr(),
-                cells.len(),
-                numbers.as_mut_ptr(),
-                numbers.len(),
-                work.as_mut_ptr(),
-                work.len(),
-            )
-        };
+        let answer = lent::components(points, cells, &mut numbers, &mut self.work());
         let [count, ..] = answer.told(Step::Components)?;
         Ok(Components { numbers, count })
     }
@@ -63,18 +51,8 @@ impl Mesh {
     /// assert_eq!(Mesh::default().one_piece(), Ok(false));
     /// ```
     pub fn one_piece(&self) -> Result<bool, Refusal> {
-        let (points, cells) = (self.points.as_flattened(), self.cells.as_flattened());
-        let mut work = self.work();
-        let answer = unsafe {
-            ffi::sf_one_piece(
-                points.as_ptr(),
-                points.len(),
-                cells.as_ptr(),
-                cells.len(),
-                work.as_mut_ptr(),
-                work.len(),
-            )
-        };
+        let (points, cells) = self.tables();
+        let answer = lent::one_piece(points, cells, &mut self.work());
         Ok(answer.told(Step::OnePiece)?[0] == 1)
     }
 
@@ -94,21 +72,9 @@ impl Mesh {
     }
 
     fn to_bytes_within(&self, room: usize) -> Result<Vec<u8>, Refusal> {
-        let (points, cells) = (self.points.as_flattened(), self.cells.as_flattened());
+        let (points, cells) = self.tables();
         let mut file = vec![0; room];
-        let mut work = self.work();
-        let answer = unsafe {
-            ffi::sf_write_mesh(
-                points.as_ptr(),
-                points.len(),
-                cells.as_ptr(),
-                cells.len(),
-                file.as_mut_ptr(),
-                file.len(),
-                work.as_mut_ptr(),
-                work.len(),
-            )
-        };
+        let answer = lent::write_mesh(points, cells, &mut file, &mut self.work());
         let [bytes, ..] = answer.told(Step::WriteMesh)?;
         Ok(fitted(&mut file, bytes))
     }
@@ -139,18 +105,12 @@ impl Mesh {
             cells: vec![[0; 4]; cells],
         };
         let mut work = mesh.work();
-        let answer = unsafe {
-            ffi::sf_read_mesh(
-                file.as_ptr(),
-                file.len(),
-                mesh.points.as_flattened_mut().as_mut_ptr(),
-                3 * points,
-                mesh.cells.as_flattened_mut().as_mut_ptr(),
-                4 * cells,
-                work.as_mut_ptr(),
-                work.len(),
-            )
-        };
+        let answer = lent::read_mesh(
+            file,
+            mesh.points.as_flattened_mut(),
+            mesh.cells.as_flattened_mut(),
+            &mut work,
+        );
         answer.told(Step::ReadMesh).map(|_| mesh)
     }
 
@@ -164,6 +124,10 @@ impl Mesh {
             Some(dot(cross(sub(b, a), sub(c, a)), sub(d, a)).abs() / 6.0)
         };
         self.cells.iter().filter_map(volume).sum()
+    }
+
+    fn tables(&self) -> (&[f32], &[u32]) {
+        (self.points.as_flattened(), self.cells.as_flattened())
     }
 
     fn work(&self) -> Vec<u32> {

@@ -1,10 +1,11 @@
 //! The plan of a grid, and the two steps that follow from it: refine and grid.
 
-use crate::ffi::{self, SfBounds};
 use crate::grid::Grid;
+use crate::lent;
 use crate::refusal::{Refusal, Step};
 
 /// An axis-aligned box.
+#[repr(C)]
 #[derive(Clone, Copy, Debug, Default, PartialEq)]
 pub struct Bounds {
     pub min: [f32; 3],
@@ -50,9 +51,13 @@ impl Plan {
     /// assert_eq!(Plan::new(Bounds::default(), 1.0, 6).unwrap_err().number, 3);
     /// ```
     pub fn new(bounds: Bounds, cell: f32, levels: u32) -> Result<Self, Refusal> {
-        let planned = unsafe { ffi::sf_plan(raw(bounds), cell, levels) };
+        let planned = lent::plan(bounds, cell, levels);
         if planned.number != 0 {
-            return Err(Refusal::new(Step::Plan, planned.number, [0; 3]));
+            return Err(Refusal {
+                step: Step::Plan,
+                number: planned.number,
+                values: [0; 3],
+            });
         }
         Ok(Plan {
             bounds,
@@ -109,17 +114,7 @@ impl Plan {
     /// ```
     pub fn refine(&self, crossing: &[u8]) -> Result<Refined, Refusal> {
         let mut split = vec![0; self.octants];
-        let answer = unsafe {
-            ffi::sf_refine(
-                raw(self.bounds),
-                self.cell,
-                self.levels,
-                crossing.as_ptr(),
-                crossing.len(),
-                split.as_mut_ptr(),
-                split.len(),
-            )
-        };
+        let answer = lent::refine(self.bounds, self.cell, self.levels, crossing, &mut split);
         let [ones, ..] = answer.told(Step::Refine)?;
         Ok(Refined { split, ones })
     }
@@ -209,26 +204,16 @@ impl Rooms {
     }
 
     fn grid(&mut self, plan: &Plan, split: &[u8]) -> Result<Grid, Refusal> {
-        let cells = self.cells.as_flattened_mut();
-        let triples = self.triples.as_flattened_mut();
-        let points = self.points.as_flattened_mut();
-        let answer = unsafe {
-            ffi::sf_grid(
-                raw(plan.bounds),
-                plan.cell,
-                plan.levels,
-                split.as_ptr(),
-                split.len(),
-                cells.as_mut_ptr(),
-                cells.len(),
-                triples.as_mut_ptr(),
-                triples.len(),
-                points.as_mut_ptr(),
-                points.len(),
-                self.work.as_mut_ptr(),
-                self.work.len(),
-            )
-        };
+        let answer = lent::grid(
+            plan.bounds,
+            plan.cell,
+            plan.levels,
+            split,
+            self.cells.as_flattened_mut(),
+            self.triples.as_flattened_mut(),
+            self.points.as_flattened_mut(),
+            &mut self.work,
+        );
         let [cells, vertices, _] = answer.told(Step::Grid)?;
         Ok(Grid {
             points: fitted(&mut self.points, vertices),
@@ -243,11 +228,4 @@ pub(crate) fn fitted<T>(table: &mut Vec<T>, length: u64) -> Vec<T> {
     table.truncate(length as usize);
     table.shrink_to_fit();
     std::mem::take(table)
-}
-
-fn raw(bounds: Bounds) -> SfBounds {
-    SfBounds {
-        min: bounds.min,
-        max: bounds.max,
-    }
 }

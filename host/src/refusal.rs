@@ -56,14 +56,6 @@ pub struct Refusal {
 }
 
 impl Refusal {
-    pub(crate) fn new(step: Step, number: u32, values: [u64; 3]) -> Self {
-        Refusal {
-            step,
-            number,
-            values,
-        }
-    }
-
     /// The cause in plain words, without number and step.
     pub fn words(&self) -> String {
         match self.number {

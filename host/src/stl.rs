@@ -67,6 +67,24 @@ pub fn parse(file: &[u8]) -> Result<Vec<Facet>, StlError> {
     checked(triangles)
 }
 
+/// A binary STL file of these triangles, without normals.
+///
+/// ```
+/// use sporeferry::stl;
+/// let triangles = [[[0.0; 3], [1.0, 0.0, 0.0], [0.0, 1.0, 0.0]]];
+/// assert_eq!(stl::parse(&stl::to_bytes(&triangles)).unwrap(), triangles);
+/// ```
+pub fn to_bytes(triangles: &[Facet]) -> Vec<u8> {
+    let mut file = vec![0; HEAD - 4];
+    file.extend((triangles.len() as u32).to_le_bytes());
+    for triangle in triangles {
+        file.extend([0; 12]);
+        file.extend(triangle.as_flattened().iter().flat_map(|x| x.to_le_bytes()));
+        file.extend([0; 2]);
+    }
+    file
+}
+
 fn announced(file: &[u8]) -> Option<u32> {
     let count = file.get(HEAD - 4..HEAD)?;
     Some(u32::from_le_bytes(count.try_into().ok()?))
@@ -224,21 +242,9 @@ mod tests {
     const TEXT: &str = "solid a part\n facet normal 0 0 1\n  outer loop\n   vertex 0 0 0\n\
         \x20  vertex 1 0 .5\n\n   vertex 0 2.5E-3 -1\n  endloop\n endfacet\nendsolid a part\n";
 
-    fn binary_file(title: &[u8], triangles: &[Facet]) -> Vec<u8> {
-        let mut file = title.to_vec();
-        file.resize(80, 0);
-        file.extend((triangles.len() as u32).to_le_bytes());
-        for triangle in triangles {
-            file.extend([0; 12]);
-            file.extend(triangle.as_flattened().iter().flat_map(|x| x.to_le_bytes()));
-            file.extend([0; 2]);
-        }
-        file
-    }
-
     #[test]
     fn both_kinds_are_read() {
-        assert_eq!(parse(&binary_file(b"", &[FACET; 3])), Ok(vec![FACET; 3]));
+        assert_eq!(parse(&to_bytes(&[FACET; 3])), Ok(vec![FACET; 3]));
         assert_eq!(parse(TEXT.as_bytes()), Ok(vec![FACET]));
         let windows = TEXT.replace('\n', "\r\n").to_uppercase();
         assert_eq!(parse(windows.as_bytes()), Ok(vec![FACET]));
@@ -247,12 +253,14 @@ mod tests {
 
     #[test]
     fn a_binary_file_may_start_with_solid() {
-        assert_eq!(parse(&binary_file(b"solid", &[FACET])), Ok(vec![FACET]));
+        let mut file = to_bytes(&[FACET]);
+        file[..5].copy_from_slice(b"solid");
+        assert_eq!(parse(&file), Ok(vec![FACET]));
     }
 
     #[test]
     fn a_binary_file_of_another_length_is_refused() {
-        let file = binary_file(b"", &[FACET; 2]);
+        let file = to_bytes(&[FACET; 2]);
         for bytes in HEAD..file.len() {
             let error = StlError::WrongLength {
                 announced: 2,
@@ -262,7 +270,7 @@ mod tests {
         }
         let long = [file, vec![0]].concat();
         assert!(matches!(parse(&long), Err(StlError::WrongLength { .. })));
-        let mut hostile = binary_file(b"", &[]);
+        let mut hostile = to_bytes(&[]);
         hostile[80..].fill(0xff);
         assert!(matches!(parse(&hostile), Err(StlError::WrongLength { .. })));
     }
@@ -315,13 +323,13 @@ mod tests {
         }
         let mut facets = [FACET; 4];
         facets[2][1][0] = f32::NAN;
-        let file = binary_file(b"", &facets);
+        let file = to_bytes(&facets);
         assert_eq!(parse(&file), Err(StlError::NotFinite { triangle: 3 }));
     }
 
     #[test]
     fn a_file_without_triangles_is_refused() {
-        assert_eq!(parse(&binary_file(b"", &[])), Err(StlError::Empty));
+        assert_eq!(parse(&to_bytes(&[])), Err(StlError::Empty));
         assert_eq!(
             parse(b"solid nothing\nendsolid nothing\n"),
             Err(StlError::Empty)

@@ -3,6 +3,7 @@
 mod shapes;
 
 use sporeferry::cover::{cover, CoverError, Covered, Request};
+use sporeferry::crossing::meets_tetrahedron;
 use sporeferry::inside::{enclosed_volume, is_inside};
 use sporeferry::part::Part;
 use sporeferry::Mesh;
@@ -73,8 +74,28 @@ fn a_part_is_covered_wherever_it_stands() {
     }
 }
 
-/// The cover holds its part: every corner of the surface lies in a kept cell's box, and a mesh of nested balls
-/// leaves the cavity out.
+/// The cover holds its part: every corner of the surface, and every middle of a triangle, is in a kept cell.
+#[test]
+fn the_surface_lies_in_the_cover() {
+    let torus = shapes::torus(10.0, 4.0);
+    for (cell, levels) in [(3.0, 0), (4.0, 1)] {
+        let mesh = covered(&Part::new(&torus), cell, levels).mesh;
+        let kept: Vec<[[f64; 3]; 4]> = mesh.cells.iter().map(|cell| corners(&mesh, cell)).collect();
+        for triangle in torus.iter().step_by(5) {
+            let wide = triangle.map(|corner| corner.map(f64::from));
+            let middle =
+                std::array::from_fn(|k| wide.iter().map(|corner| corner[k]).sum::<f64>() / 3.0);
+            for point in [wide[0], middle] {
+                assert!(kept.iter().any(|cell| meets_tetrahedron(&[point; 3], cell)));
+            }
+        }
+    }
+}
+
+fn corners(mesh: &Mesh, cell: &[u32; 4]) -> [[f64; 3]; 4] {
+    cell.map(|point| mesh.points[point as usize].map(f64::from))
+}
+
 #[test]
 fn a_cavity_stays_empty() {
     let mut shell = shapes::sphere(10.0);
@@ -89,8 +110,8 @@ fn a_cavity_stays_empty() {
 
 fn centroids(mesh: &Mesh) -> impl Iterator<Item = [f64; 3]> + '_ {
     mesh.cells.iter().map(|cell| {
-        let corners = cell.map(|point| mesh.points[point as usize]);
-        std::array::from_fn(|k| corners.iter().map(|p| f64::from(p[k])).sum::<f64>() / 4.0)
+        let corners = corners(mesh, cell);
+        std::array::from_fn(|k| corners.iter().map(|p| p[k]).sum::<f64>() / 4.0)
     })
 }
 
@@ -108,8 +129,8 @@ fn one_probe_for_a_group_is_as_good_as_one_for_each_cell() {
     let deserved = centroids(&whole)
         .zip(&grid.cells)
         .filter(|(centroid, cell)| {
-            let corners = cell.map(|p| grid.points[p as usize].map(f64::from));
-            surface.crosses_tetrahedron(&corners) || is_inside(surface.triangles(), *centroid)
+            let crossed = surface.crosses_tetrahedron(&corners(&whole, cell));
+            crossed || is_inside(surface.triangles(), *centroid)
         });
     let covered = covered(&part, 2.0, 0);
     assert_eq!(covered.dropped, 0);

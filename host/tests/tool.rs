@@ -1,77 +1,53 @@
 //! The command-line tool as a user meets it: status, words, and what is left in the folder.
 
+mod folder;
 mod shapes;
 
-use sporeferry::Mesh;
+use folder::Folder;
+use sporeferry::{stl, Mesh};
 use std::fs;
-use std::path::{Path, PathBuf};
 use std::process::Command;
 
-/// A folder of a test's own, removed with it.
-struct Folder(PathBuf);
-
-impl Folder {
-    fn new(name: &str) -> Self {
-        let path = std::env::temp_dir().join(format!("sporeferry-{}-{name}", std::process::id()));
-        fs::create_dir_all(&path).unwrap();
-        Folder(path)
+fn with(folder: Folder, files: &[(&str, &[u8])]) -> Folder {
+    for (name, bytes) in files {
+        fs::write(folder.0.join(name), bytes).unwrap();
     }
-
-    fn with(self, name: &str, bytes: &[u8]) -> Self {
-        fs::write(self.0.join(name), bytes).unwrap();
-        self
-    }
-
-    fn names(&self) -> Vec<String> {
-        let entries = fs::read_dir(&self.0).unwrap();
-        let mut names: Vec<String> = entries
-            .map(|entry| entry.unwrap().file_name().into_string().unwrap())
-            .collect();
-        names.sort();
-        names
-    }
-
-    /// Runs the tool here: status, standard output, standard error.
-    fn run(&self, words: &str) -> (i32, String, String) {
-        let tool = Path::new(env!("CARGO_BIN_EXE_sporeferry"));
-        let mut command = Command::new(tool);
-        let done = command
-            .args(words.split_whitespace())
-            .current_dir(&self.0)
-            .output()
-            .unwrap();
-        let text = |bytes: Vec<u8>| String::from_utf8(bytes).unwrap();
-        (
-            done.status.code().unwrap(),
-            text(done.stdout),
-            text(done.stderr),
-        )
-    }
-
-    /// The tool fails with one sentence that holds this, and leaves the folder as it was.
-    fn fails(&self, words: &str, status: i32, holds: &str) {
-        let before = self.names();
-        let (code, out, error) = self.run(words);
-        assert_eq!((code, out.as_str()), (status, ""), "{words}: {error}");
-        assert!(error.contains(holds), "{words}: {error}");
-        assert!(
-            error.starts_with("sporeferry: ") && error.lines().count() == 1,
-            "{error}"
-        );
-        assert_eq!(self.names(), before);
-    }
+    folder
 }
 
-impl Drop for Folder {
-    fn drop(&mut self) {
-        let _ = fs::remove_dir_all(&self.0);
-    }
+/// Runs the tool in a folder: status, standard output, standard error.
+fn run(folder: &Folder, words: &str) -> (i32, String, String) {
+    let mut tool = Command::new(env!("CARGO_BIN_EXE_sporeferry"));
+    let tool = tool.args(words.split_whitespace()).current_dir(&folder.0);
+    let done = tool.output().unwrap();
+    let text = |bytes: Vec<u8>| String::from_utf8(bytes).unwrap();
+    (
+        done.status.code().unwrap(),
+        text(done.stdout),
+        text(done.stderr),
+    )
+}
+
+/// The tool fails with one sentence that holds this, and leaves the folder as it was.
+fn fails(folder: &Folder, words: &str, status: i32, holds: &str) {
+    let before = folder.names();
+    let (code, out, error) = run(folder, words);
+    assert_eq!((code, out.as_str()), (status, ""), "{words}: {error}");
+    assert!(error.contains(holds), "{words}: {error}");
+    assert!(
+        error.starts_with("sporeferry: ") && error.lines().count() == 1,
+        "{error}"
+    );
+    assert_eq!(folder.names(), before);
 }
 
 #[test]
 fn a_part_is_covered_and_looked_at() {
-    let folder = Folder::new("covered").with("ball.stl", &shapes::stl(&shapes::sphere(10.0)));
-    let (code, out, error) = folder.run("cover ball.stl --cell 4 --levels 2 -o ball.mesh");
+    let folder = with(
+        Folder::new("covered"),
+        &[("ball.stl", &stl::to_bytes(&shapes::sphere(10.0)))],
+    );
+    let (code, out, error) = run(&folder, "cover ball.stl --cell 4 --levels 2 -o ball.mesh");
     assert_eq!((code, error.as_str()), (0, ""));
     for word in [
         "octants",
@@ -89,7 +65,7 @@ fn a_part_is_covered_and_looked_at() {
     let mesh = Mesh::from_bytes(&fs::read(folder.0.join("ball.mesh")).unwrap()).unwrap();
     assert_eq!(mesh.one_piece(), Ok(true));
 
-    let (code, out, error) = folder.run("info ball.mesh");
+    let (code, out, error) = run(&folder, "info ball.mesh");
     assert_eq!((code, error.as_str()), (0, ""));
     for word in [
         "reads",
@@ -101,23 +77,26 @@ fn a_part_is_covered_and_looked_at() {
     ] {
         assert!(out.contains(word), "{word} is not in\n{out}");
     }
-    let (code, out, _) = folder.run("cover ball.stl --cell 4 --crust -o ball.mesh");
+    let (code, out, _) = run(&folder, "cover ball.stl --cell 4 --crust -o ball.mesh");
     assert!(code == 0 && !out.contains("groups"));
 }
 
 #[test]
 fn a_part_that_cannot_be_covered_leaves_nothing_behind() {
     let ball = shapes::sphere(10.0);
-    let folder = Folder::new("refused")
-        .with("ball.stl", &shapes::stl(&ball))
-        .with("open.stl", &shapes::stl(&ball[1..]))
-        .with("short.stl", &shapes::stl(&ball)[..5000])
-        .with(
-            "text.stl",
-            b"solid a\nfacet normal 0 0 1\nouter loop\nvertex 0 0\n",
-        )
-        .with("empty.stl", b"")
-        .with("old.mesh", b"kept as it was");
+    let (whole, open) = (stl::to_bytes(&ball), stl::to_bytes(&ball[1..]));
+    let text = b"solid a\nfacet normal 0 0 1\nouter loop\nvertex 0 0\n";
+    let folder = with(
+        Folder::new("refused"),
+        &[
+            ("ball.stl", &whole),
+            ("open.stl", &open),
+            ("short.stl", &whole[..5000]),
+            ("text.stl", text),
+            ("empty.stl", b""),
+            ("old.mesh", b"kept as it was"),
+        ],
+    );
     for (words, holds) in [
         ("ball.stl --cell 0 -o new.mesh", "refusal 1 of plan"),
         ("ball.stl --cell nan -o new.mesh", "refusal 1 of plan"),
@@ -151,7 +130,7 @@ fn a_part_that_cannot_be_covered_leaves_nothing_behind() {
         ),
         ("ball.stl --cell 4 -o ./ball.stl", "the place of the part"),
     ] {
-        folder.fails(&format!("cover {words}"), 1, holds);
+        fails(&folder, &format!("cover {words}"), 1, holds);
     }
     assert_eq!(
         fs::read(folder.0.join("old.mesh")).unwrap(),
@@ -171,11 +150,15 @@ fn a_file_that_does_not_read_is_explained() {
         copy[place] ^= 0x40;
         copy
     };
-    let folder = Folder::new("info")
-        .with("cut.mesh", &file[..40])
-        .with("long.mesh", &[&file[..], b"!"].concat())
-        .with("point.mesh", &changed(4 + 60 + 4))
-        .with("pieces.mesh", &changed(file.len() - 4));
+    let folder = with(
+        Folder::new("info"),
+        &[
+            ("cut.mesh", &file[..40]),
+            ("long.mesh", &[&file[..], b"!"].concat()),
+            ("point.mesh", &changed(4 + 60 + 4)),
+            ("pieces.mesh", &changed(file.len() - 4)),
+        ],
+    );
     for (name, holds) in [
         (
             "cut.mesh",
@@ -192,14 +175,14 @@ fn a_file_that_does_not_read_is_explained() {
         ),
         ("missing.mesh", "missing.mesh: "),
     ] {
-        folder.fails(&format!("info {name}"), 1, holds);
+        fails(&folder, &format!("info {name}"), 1, holds);
     }
 }
 
 #[test]
 fn words_are_understood_or_not() {
     let folder = Folder::new("words");
-    let (code, out, error) = folder.run("--help");
+    let (code, out, error) = run(&folder, "--help");
     assert_eq!((code, error.as_str()), (0, ""));
     assert!(out.contains("sporeferry cover PART.stl --cell C [--levels L] [--crust] -o PART.mesh"));
     for words in [
@@ -209,14 +192,14 @@ fn words_are_understood_or_not() {
         "info",
         "cover a.stl --cell four -o a.mesh",
     ] {
-        folder.fails(words, 2, "sporeferry --help tells how");
+        fails(&folder, words, 2, "sporeferry --help tells how");
     }
 }
 
 #[cfg(target_os = "linux")]
 #[test]
 fn a_full_disk_is_a_failure_of_info() {
-    let folder = Folder::new("full").with("a.mesh", &[0; 12]);
+    let folder = with(Folder::new("full"), &[("a.mesh", &[0; 12])]);
     let full = fs::OpenOptions::new()
         .write(true)
         .open("/dev/full")

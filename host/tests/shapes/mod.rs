@@ -1,9 +1,8 @@
 //! Closed surfaces to mesh. Each test file takes those it needs.
 #![allow(dead_code)]
 
+use sporeferry::stl::Facet;
 use std::f64::consts::TAU;
-
-pub type Facet = [[f32; 3]; 3];
 
 /// A surface over a grid of `n` by `m` places that closes in both directions.
 fn wrapped(n: usize, m: usize, at: impl Fn(f64, f64) -> [f64; 3]) -> Vec<Facet> {
@@ -58,16 +57,4 @@ fn quarters([a, b, c]: [[f64; 3]; 3]) -> [[[f64; 3]; 3]; 4] {
     };
     let (ab, bc, ca) = (middle(a, b), middle(b, c), middle(c, a));
     [[a, ab, ca], [ab, b, bc], [ca, bc, c], [ab, bc, ca]]
-}
-
-/// The bytes of a binary STL file.
-pub fn stl(triangles: &[Facet]) -> Vec<u8> {
-    let mut file = vec![0; 80];
-    file.extend((triangles.len() as u32).to_le_bytes());
-    for triangle in triangles {
-        file.extend([0; 12]);
-        file.extend(triangle.as_flattened().iter().flat_map(|x| x.to_le_bytes()));
-        file.extend([0; 2]);
-    }
-    file
 }
