@@ -1,9 +1,12 @@
 //! Meshes: component numbers, one piece, and the mesh file.
 
-use crate::lent;
-use crate::plan::fitted;
+use crate::lent::{self, Answer};
 use crate::refusal::{Refusal, Step};
 use crate::vector::{cross, dot, sub, wide};
+
+/// A function that writes a mesh's file, and one that reads it.
+type Writer = fn(&[f32], &[u32], &mut [u8], &mut [u32]) -> Answer;
+type Reader = fn(&[u8], &mut [f32], &mut [u32], &mut [u32]) -> Answer;
 
 /// Points and tetrahedra. Anything may stand in it: every step answers or refuses.
 #[derive(Clone, Debug, Default, PartialEq)]
@@ -65,18 +68,21 @@ impl Mesh {
     /// assert_eq!(missing.to_bytes().unwrap_err().number, 8);
     /// ```
     pub fn to_bytes(&self) -> Result<Vec<u8>, Refusal> {
-        match self.to_bytes_within(0) {
-            Err(short) if short.number == 9 => self.to_bytes_within(short.values[0] as usize),
-            told => told,
-        }
+        self.written(Step::WriteMesh, lent::write_mesh)
     }
 
-    fn to_bytes_within(&self, room: usize) -> Result<Vec<u8>, Refusal> {
+    /// Asks with an empty table first, to learn the number of bytes.
+    fn written(&self, step: Step, writer: Writer) -> Result<Vec<u8>, Refusal> {
         let (points, cells) = self.tables();
-        let mut file = vec![0; room];
-        let answer = lent::write_mesh(points, cells, &mut file, &mut self.work());
-        let [bytes, ..] = answer.told(Step::WriteMesh)?;
-        Ok(fitted(&mut file, bytes))
+        let mut work = self.work();
+        let mut write = |file: &mut [u8]| writer(points, cells, file, &mut work).told(step);
+        match write(&mut []) {
+            Err(short) if short.number == 9 => {
+                let mut file = vec![0; short.values[0] as usize];
+                write(&mut file).map(|_| file)
+            }
+            told => told.map(|_| Vec::new()),
+        }
     }
 
     /// The mesh of a file's bytes. Refused with 11, 12, 4, 8 or 13.
@@ -90,28 +96,22 @@ impl Mesh {
     /// assert_eq!(Mesh::from_bytes(&file).unwrap_err().number, 12);
     /// ```
     pub fn from_bytes(file: &[u8]) -> Result<Self, Refusal> {
-        match Self::from_bytes_within(file, 0, 0) {
-            Err(short) if short.number == 9 => {
-                let [points, cells, _] = short.values.map(|count| count as usize);
-                Self::from_bytes_within(file, points, cells)
-            }
-            told => told,
-        }
+        Self::read(Step::ReadMesh, lent::read_mesh, file)
     }
 
-    fn from_bytes_within(file: &[u8], points: usize, cells: usize) -> Result<Self, Refusal> {
-        let mut mesh = Mesh {
-            points: vec![[0.0; 3]; points],
-            cells: vec![[0; 4]; cells],
-        };
-        let mut work = mesh.work();
-        let answer = lent::read_mesh(
-            file,
-            mesh.points.as_flattened_mut(),
-            mesh.cells.as_flattened_mut(),
-            &mut work,
-        );
-        answer.told(Step::ReadMesh).map(|_| mesh)
+    /// Asks with empty tables first, to learn the numbers of points and cells.
+    fn read(step: Step, reader: Reader, file: &[u8]) -> Result<Self, Refusal> {
+        match reader(file, &mut [], &mut [], &mut []).told(step) {
+            Err(short) if short.number == 9 => {
+                let [points, cells, _] = short.values.map(|count| count as usize);
+                let (mut points, mut cells) = (vec![[0.0; 3]; points], vec![[0; 4]; cells]);
+                let mut work = vec![0; 2 * points.len()];
+                let (to, named) = (points.as_flattened_mut(), cells.as_flattened_mut());
+                reader(file, to, named, &mut work).told(step)?;
+                Ok(Mesh { points, cells })
+            }
+            told => told.map(|_| Mesh::default()),
+        }
     }
 
     /// The sum of the cells' absolute volumes, in f64. A cell that names a missing point counts nothing.
