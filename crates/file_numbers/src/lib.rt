@@ -1,0 +1,128 @@
+// The component numbers of the cells in a file: written behind the cells, and compared with those that a file has.
+ghost use mathlib.Core.Path.{_≡_};
+ghost use mathlib.Core.Bool.{false};
+ghost use mathlib.Core.List.{[]};
+ghost use Prim.Native.Nat.{ℕ, _+_, _*_, _≤_};
+ghost use lib.ListN.{length, replicate};
+ghost use lib.Seq.{sets};
+ghost use Rattle.lists.specs.Tables.{same, cellsOf};
+ghost use Rattle.words.specs.Words.{bytesOf, wordsAt, spanOf};
+ghost use Rattle.links.specs.Forest.{Forest};
+ghost use Rattle.links.specs.Vertices.{Cells, Vertices, JoinedAt, Joint};
+ghost use Rattle.components.specs.Numbers.{componentNumbers, Linked, Fits};
+ghost use Rattle.file_numbers.specs.Stored.{Told, Noted};
+
+// Joins the vertex at q with the first one of its cell, unless it is that.
+fn join_at(file: &[u8], at: usize, big: bool, led: bool, parent: &mut [u32], q: usize)
+    requires { ⌜ Vertices (wordsAt big led (now file) at (q + 1)) (now parent) × Forest (now parent) × (at + spanOf led (q + 1) ≤ length (now file)) ⌝ }
+    ensures { λ _. ⌜ JoinedAt (wordsAt big led (now (file .entry)) at (q + 1)) [] (now (parent .entry)) (now (parent .exit)) q ⌝ }
+{
+    if q % 4 == 0 {
+        return;
+    }
+    let x = lists::wide(words::word_of(file, at, big, led, q / 4 * 4));
+    let y = lists::wide(words::word_of(file, at, big, led, q));
+    links::join(parent, x, y);
+}
+
+// The groups of the points that cells in a file join, which are n words, from a table that holds anything.
+fn link(file: &[u8], at: usize, big: bool, led: bool, n: usize, parent: &mut [u32])
+    requires { ⌜ Vertices (wordsAt big led (now file) at n) (now parent) × (at + spanOf led n ≤ length (now file)) ⌝ }
+    ensures { λ _. ⌜ Joint (wordsAt big led (now (file .entry)) at n) [] (now (parent .exit)) ⌝ }
+{
+    links::start(parent);
+    let mut q: usize = 0;
+    while q < n {
+        join_at(file, at, big, led, parent, q);
+        q += 1;
+    }
+}
+
+// Links the points of the cells in the first n entries of the work table, and clears the numbers behind them.
+fn prepare(file: &[u8], at: usize, big: bool, led: bool, cells: usize, work: &mut [u32], n: usize)
+    requires { ⌜ Cells (wordsAt big led (now file) at (4 * cells)) n × (length (now work) ≡ 2 * n) × (at + spanOf led (4 * cells) ≤ length (now file)) ⌝ }
+    ensures { λ _. ⌜ Linked (wordsAt big led (now (file .entry)) at (4 * cells)) (now (work .exit)) n ⌝ }
+{
+    link(file, at, big, led, 4 * cells, &mut work[..n]);
+    lists::zero(&mut work[n..]);
+}
+
+// Whether the words at `numbers` are the numbers of the cells by the first appearance of their groups.
+fn compare(
+    file: &[u8],
+    at: usize,
+    numbers: usize,
+    big: bool,
+    led: bool,
+    cells: usize,
+    work: &mut [u32],
+    n: usize,
+) -> bool
+    requires { ⌜ Linked (wordsAt big led (now file) at (4 * cells)) (now work) n × (at + spanOf led (4 * cells) ≤ length (now file)) × (numbers + 4 * cells ≤ length (now file)) ⌝ }
+    ensures { λ r. ⌜ r ≡ same (wordsAt big false (now (file .entry)) numbers cells) (componentNumbers (wordsAt big led (now (file .entry)) at (4 * cells)) cells) ⌝ }
+{
+    let mut count: usize = 0;
+    let mut i: usize = 0;
+    while i < cells {
+        let v = lists::wide(words::word_of(file, at, big, led, i * 4));
+        let k = components::number_at(work, n, v, count);
+        if lists::wide(words::word(file, numbers + 4 * i, big)) != k {
+            return false;
+        }
+        if k == count {
+            count += 1;
+        }
+        i += 1;
+    }
+    true
+}
+
+// Whether a file has at `numbers` the component numbers of the cells that it has at `at`; the work table, 2 entries a point, is left zero.
+pub fn numbers_right(
+    file: &[u8],
+    at: usize,
+    numbers: usize,
+    big: bool,
+    led: bool,
+    cells: usize,
+    work: &mut [u32],
+) -> bool
+    requires { ⌜ Fits (wordsAt big led (now file) at (4 * cells)) (now work) × (at + spanOf led (4 * cells) ≤ length (now file)) × (numbers + 4 * cells ≤ length (now file)) ⌝ }
+    ensures { λ r. ⌜ Told big led (now (file .entry)) at numbers cells (now (work .entry)) (now (work .exit)) r ⌝ }
+{
+    let n = work.len() / 2;
+    prepare(file, at, big, led, cells, work, n);
+    let right = compare(file, at, numbers, big, led, cells, work, n);
+    lists::zero(work);
+    right
+}
+
+// Stores the numbers of the cells by the first appearance of their groups as words from a place on.
+fn put_each(cells: &[u32], file: &mut [u8], at: usize, big: bool, work: &mut [u32], n: usize)
+    requires { ⌜ Linked (now cells) (now work) n × (at + 4 * cellsOf (now cells) ≤ length (now file)) ⌝ }
+    ensures { λ _. ⌜ now (file .exit) ≡ sets (now (file .entry)) at (bytesOf big (componentNumbers (now (cells .entry)) (cellsOf (now (cells .entry))))) ⌝ }
+{
+    let many = cells.len() / 4;
+    let mut count: usize = 0;
+    let mut i: usize = 0;
+    while i < many {
+        let v = lists::wide(cells[i * 4]);
+        let k = components::number_at(work, n, v, count);
+        words::put_word(file, at + 4 * i, big, k as u32);
+        if k == count {
+            count += 1;
+        }
+        i += 1;
+    }
+}
+
+// Stores the component numbers of the cells as words from a place on; the work table, 2 entries a point, is left zero.
+pub fn put_numbers(cells: &[u32], file: &mut [u8], at: usize, big: bool, work: &mut [u32])
+    requires { ⌜ Fits (now cells) (now work) × (at + 4 * cellsOf (now cells) ≤ length (now file)) ⌝ }
+    ensures { λ _. ⌜ Noted big (now (cells .entry)) at (now (file .entry)) (now (file .exit)) (now (work .entry)) (now (work .exit)) ⌝ }
+{
+    let n = work.len() / 2;
+    components::prepare(cells, work, n);
+    put_each(cells, file, at, big, work, n);
+    lists::zero(work);
+}
