@@ -1,0 +1,4 @@
+-- Laws that the proofs of mesh_file share.
+pub mod Sections
+pub mod Writing
+pub mod Reading

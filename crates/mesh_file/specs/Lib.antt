@@ -1,0 +1,4 @@
+-- The definitions that the contracts of mesh_file cite.
+pub mod File
+pub mod Write
+pub mod Read
