@@ -126,10 +126,7 @@ mod tests {
             let Ok(Command::Cover(order)) = parsed(words) else {
                 panic!("{words} was not understood");
             };
-            assert_eq!(
-                (order.part, order.output),
-                ("a.stl".into(), "a.mesh".into())
-            );
+            assert_eq!((order.part, order.output), ("a.stl".into(), "a.mesh".into()));
             assert_eq!((order.request.cell, order.request.levels), (2.5, 3));
             assert!(order.request.crust);
         }
@@ -149,26 +146,14 @@ mod tests {
             ("", "a command is missing"),
             ("mesh", "there is no command mesh"),
             ("cover", "cover needs an STL file"),
-            (
-                "cover a.stl --cell 1",
-                "cover needs -o and the mesh file to write",
-            ),
+            ("cover a.stl --cell 1", "cover needs -o and the mesh file to write"),
             ("cover a.stl -o b", "cover needs --cell and the cell size"),
             ("cover a.stl -o b --cell", "--cell needs a value"),
             ("cover a.stl -o b --cell x", "x is no value for --cell"),
-            (
-                "cover a.stl -o b --cell 1 --levels -1",
-                "-1 is no value for --levels",
-            ),
-            (
-                "cover a.stl -o b --cell 1 --cell 2",
-                "--cell is given twice",
-            ),
+            ("cover a.stl -o b --cell 1 --levels -1", "-1 is no value for --levels"),
+            ("cover a.stl -o b --cell 1 --cell 2", "--cell is given twice"),
             ("cover a.stl c.stl -o b --cell 1", "the part is given twice"),
-            (
-                "cover a.stl -o b --cell 1 --fast",
-                "cover has no option --fast",
-            ),
+            ("cover a.stl -o b --cell 1 --fast", "cover has no option --fast"),
             ("info", "info takes one file"),
             ("info a b", "info takes one file"),
             ("info --all", "info has no option --all"),

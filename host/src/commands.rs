@@ -14,77 +14,20 @@ use std::path::Path;
 /// Meshes a part, writes the file and tells what came of it.
 pub fn cover(order: &CoverOrder) -> Result<String, String> {
     let (input, output) = (order.part.as_path(), order.output.as_path());
-    let bytes = fs::read(input).map_err(about(input))?;
-    check_place(output).map_err(about(output))?;
-    if same_file(input, output) {
-        return Err(format!(
-            "{}: it would take the place of the part",
-            output.display()
-        ));
-    }
+    let bytes = read_for(input, output)?;
     let part = Part::from_stl(&bytes).map_err(about(input))?;
     drop(bytes);
     let covered = sporeferry::cover::cover(&part, order.request).map_err(about(input))?;
     let file = covered.mesh.to_bytes().map_err(about(output))?;
     write_whole(output, &file).map_err(about(output))?;
-    Ok(summary(order, &part, &covered, file.len()))
-}
 
-fn summary(order: &CoverOrder, part: &Part, covered: &Covered, bytes: usize) -> String {
-    let (plan, octants, cells) = (&covered.plan, &covered.octants, &covered.cells);
-    let [nx, ny, nz] = plan.dims();
-    let triangles = part.surface.triangles();
-    let mut lines = vec![
-        (
-            "part",
-            format!(
-                "{}, {} triangles",
-                order.part.display(),
-                grouped(triangles.len())
-            ),
-        ),
-        (
-            "grid",
-            format!(
-                "{nx} × {ny} × {nz}, {} levels, unit {}",
-                plan.levels(),
-                plan.half()
-            ),
-        ),
-        (
-            "octants",
-            format!(
-                "{}: {} asked, {} crossed, {} split",
-                grouped(plan.octants()),
-                grouped(octants.asked),
-                grouped(octants.crossed),
-                grouped(octants.split)
-            ),
-        ),
-        (
-            "cells",
-            format!("{}: {} crossed", grouped(cells.all), grouped(cells.crossed)),
-        ),
-        ("kept", grouped(covered.mesh.cells.len())),
-        ("dropped", grouped(covered.dropped)),
-        ("points", grouped(covered.mesh.points.len())),
-        ("pieces", grouped(covered.pieces)),
-        ("volume", measure(covered.mesh.volume())),
-        (
-            "file",
-            format!("{}, {} bytes", order.output.display(), grouped(bytes)),
-        ),
-    ];
-    if !order.request.crust {
-        let probed = format!(
-            "{}: {} inside",
-            grouped(cells.groups),
-            grouped(cells.inside)
-        );
-        lines.insert(4, ("groups", probed));
-        lines[9].1 += &format!(", the part's is {}", measure(enclosed_volume(triangles)));
-    }
-    table(&lines)
+    let mut report = Report::default();
+    let triangles = grouped(part.surface.triangles().len());
+    report.line("part", format!("{}, {triangles} triangles", input.display()));
+    report.grid(&covered);
+    report.mesh(&covered, &part, order.request.crust);
+    report.file(output, &file);
+    Ok(report.0)
 }
 
 /// Tells what a mesh file holds.
@@ -92,17 +35,56 @@ pub fn info(path: &Path) -> Result<String, String> {
     let bytes = fs::read(path).map_err(about(path))?;
     let mesh = Mesh::from_bytes(&bytes).map_err(about(path))?;
     let pieces = mesh.components().map_err(about(path))?.count;
-    Ok(table(&[
-        (
-            "file",
-            format!("{}, {} bytes, reads", path.display(), grouped(bytes.len())),
-        ),
-        ("points", grouped(mesh.points.len())),
-        ("cells", grouped(mesh.cells.len())),
-        ("pieces", grouped(pieces)),
-        ("box", box_of(&mesh)),
-        ("volume", measure(mesh.volume())),
-    ]))
+
+    let mut report = Report::default();
+    report.file(path, &bytes);
+    report.line("reads", "yes");
+    report.line("points", grouped(mesh.points.len()));
+    report.line("cells", grouped(mesh.cells.len()));
+    report.line("pieces", grouped(pieces));
+    report.line("box", box_of(&mesh));
+    report.line("volume", measure(mesh.volume()));
+    Ok(report.0)
+}
+
+/// Lines of a name and what is to be said of it.
+#[derive(Default)]
+struct Report(String);
+
+impl Report {
+    fn line(&mut self, name: &str, value: impl Display) {
+        self.0 += &format!("{name:<8} {value}\n");
+    }
+
+    fn file(&mut self, path: &Path, bytes: &[u8]) {
+        self.line("file", format!("{}, {} bytes", path.display(), grouped(bytes.len())));
+    }
+
+    fn grid(&mut self, Covered { plan, octants, cells, .. }: &Covered) {
+        let [nx, ny, nz] = plan.dims();
+        let (levels, unit) = (plan.levels(), plan.half());
+        self.line("grid", format!("{nx} × {ny} × {nz}, levels {levels}, unit {unit}"));
+        let [all, asked] = [plan.octants(), octants.asked].map(grouped);
+        let (crossed, split) = (grouped(octants.crossed), grouped(octants.split));
+        self.line("octants", format!("{all}: {asked} asked, {crossed} crossed, {split} split"));
+        let [all, crossed] = [cells.all, cells.crossed].map(grouped);
+        self.line("cells", format!("{all}: {crossed} crossed"));
+    }
+
+    fn mesh(&mut self, covered: &Covered, part: &Part, crust: bool) {
+        let mut volume = measure(covered.mesh.volume());
+        if !crust {
+            let [groups, inside] = [covered.cells.groups, covered.cells.inside].map(grouped);
+            self.line("groups", format!("{groups}: {inside} inside"));
+            let enclosed = enclosed_volume(part.surface.triangles());
+            volume += &format!(", the part's is {}", measure(enclosed));
+        }
+        self.line("kept", grouped(covered.mesh.cells.len()));
+        self.line("dropped", grouped(covered.dropped));
+        self.line("points", grouped(covered.mesh.points.len()));
+        self.line("pieces", grouped(covered.pieces));
+        self.line("volume", volume);
+    }
 }
 
 fn box_of(mesh: &Mesh) -> String {
@@ -113,14 +95,14 @@ fn box_of(mesh: &Mesh) -> String {
     format!("x {}, y {}, z {}", side(0), side(1), side(2))
 }
 
-fn table(lines: &[(&str, String)]) -> String {
-    let line = |(name, value): &(&str, String)| format!("{name:<8} {value}\n");
-    lines.iter().map(line).collect()
-}
-
-/// Puts the file's name before what is wrong with it.
-fn about<E: Display>(path: &Path) -> impl Fn(E) -> String + '_ {
-    move |error| format!("{}: {error}", path.display())
+/// The bytes of a file, once it is sure that what comes of it has a place.
+fn read_for(input: &Path, output: &Path) -> Result<Vec<u8>, String> {
+    let bytes = fs::read(input).map_err(about(input))?;
+    check_place(output).map_err(about(output))?;
+    if same_file(input, output) {
+        return Err(format!("{}: it is the file to be read", output.display()));
+    }
+    Ok(bytes)
 }
 
 fn same_file(one: &Path, other: &Path) -> bool {
@@ -128,4 +110,9 @@ fn same_file(one: &Path, other: &Path) -> bool {
         (Ok(one), Ok(other)) => one == other,
         _ => false,
     }
+}
+
+/// Puts the file's name before what is wrong with it.
+fn about<E: Display>(path: &Path) -> impl Fn(E) -> String + '_ {
+    move |error| format!("{}: {error}", path.display())
 }

@@ -119,11 +119,7 @@ pub fn cover(part: &Part, request: Request) -> Result<Covered, CoverError> {
 fn refined_grid(surface: &Surface, plan: &Plan) -> Result<(Grid, Octants), Refusal> {
     let (crossing, asked) = crossed_octants(surface, plan);
     let refined = plan.refine(&crossing)?;
-    let octants = Octants {
-        asked,
-        crossed: ones(&crossing),
-        split: refined.ones,
-    };
+    let octants = Octants { asked, crossed: ones(&crossing), split: refined.ones };
     Ok((plan.grid(&refined.split)?, octants))
 }
 
@@ -132,11 +128,7 @@ fn refined_grid(surface: &Surface, plan: &Plan) -> Result<(Grid, Octants), Refus
 fn crossed_octants(surface: &Surface, plan: &Plan) -> (Vec<u8>, usize) {
     let mut table = vec![0; plan.octants()];
     let mut asked = 0;
-    let mut waiting = if plan.levels() > 0 {
-        roots(plan)
-    } else {
-        Vec::new()
-    };
+    let mut waiting = if plan.levels() > 0 { roots(plan) } else { Vec::new() };
     for level in (1..=plan.levels()).rev() {
         let told = answers("octants asked", waiting.len(), CHUNK, |n| {
             let (low, high) = octant_box(plan, level, waiting[n]);
@@ -156,8 +148,7 @@ fn crossed_octants(surface: &Surface, plan: &Plan) -> (Vec<u8>, usize) {
 fn roots(plan: &Plan) -> Vec<[u32; 3]> {
     let [nx, ny, nz] = plan.dims();
     let rows = (0..nz).flat_map(|k| (0..ny).map(move |j| (j, k)));
-    rows.flat_map(|(j, k)| (0..nx).map(move |i| [i, j, k]))
-        .collect()
+    rows.flat_map(|(j, k)| (0..nx).map(move |i| [i, j, k])).collect()
 }
 
 fn children(octant: [u32; 3]) -> impl Iterator<Item = [u32; 3]> {
@@ -187,12 +178,7 @@ fn keep(
     crossing: &[u8],
     request: Request,
 ) -> Result<(Kept, Cells), Refusal> {
-    let mut cells = Cells {
-        all: grid.cells.len(),
-        crossed: ones(crossing),
-        groups: 0,
-        inside: 0,
-    };
+    let mut cells = Cells { all: grid.cells.len(), crossed: ones(crossing), groups: 0, inside: 0 };
     if request.crust {
         return Ok((grid.keep_crust(request.cell, crossing)?, cells));
     }

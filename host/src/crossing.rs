@@ -45,9 +45,7 @@ fn edges_of([a, b, c]: &Triangle) -> [Point; 3] {
 }
 
 fn products<'a>(first: &'a [Point], second: &'a [Point]) -> impl Iterator<Item = Point> + 'a {
-    first
-        .iter()
-        .flat_map(|u| second.iter().map(|v| cross(*u, *v)))
+    first.iter().flat_map(|u| second.iter().map(|v| cross(*u, *v)))
 }
 
 /// Whether the shadows of the triangle and of the box about 0 are apart on a direction.
@@ -72,9 +70,7 @@ fn shadows_apart(direction: Point, triangle: &Triangle, cell: &[Point; 4]) -> bo
 fn largest(direction: Point, triangle: &Triangle, cell: &[Point; 4], from: Point) -> f64 {
     let size = direction.map(f64::abs);
     let points = triangle.iter().chain(cell);
-    points.fold(0.0, |most, point| {
-        most.max(dot(size, sub(*point, from).map(f64::abs)))
-    })
+    points.fold(0.0, |most, point| most.max(dot(size, sub(*point, from).map(f64::abs))))
 }
 
 fn shadow(direction: Point, points: &[Point]) -> (f64, f64) {
@@ -145,10 +141,7 @@ mod tests {
         assert!(!meets_tetrahedron(&[[0.5; 3]; 3], &CELL));
         let piercing = [[-1.0, 0.2, 0.2], [2.0, 0.2, 0.2], [2.0, 0.2, 0.2]];
         assert!(meets_tetrahedron(&piercing, &CELL));
-        assert!(!meets_tetrahedron(
-            &moved(&piercing, [0.0, 0.9, 0.0]),
-            &CELL
-        ));
+        assert!(!meets_tetrahedron(&moved(&piercing, [0.0, 0.9, 0.0]), &CELL));
     }
 
     #[test]
@@ -173,10 +166,7 @@ mod tests {
         }
         let in_face_plane = [[0.0, 0.2, 0.2], [0.0, 0.3, 0.2], [0.0, 0.2, 0.3]];
         assert!(meets_tetrahedron(&in_face_plane, &CELL));
-        assert!(!meets_tetrahedron(
-            &moved(&in_face_plane, [-HAIR, 0.0, 0.0]),
-            &CELL
-        ));
+        assert!(!meets_tetrahedron(&moved(&in_face_plane, [-HAIR, 0.0, 0.0]), &CELL));
     }
 
     #[test]

@@ -77,9 +77,7 @@ impl Grid {
         );
         let [count, ..] = answer.told(Step::Representatives)?;
         let pairs = numbers.into_iter().zip(centroids).take(count as usize);
-        Ok(pairs
-            .map(|(cell, centroid)| Representative { cell, centroid })
-            .collect())
+        Ok(pairs.map(|(cell, centroid)| Representative { cell, centroid }).collect())
     }
 
     /// The mesh of the crossed cells and of the groups whose representative's probe byte is 1.

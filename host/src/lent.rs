@@ -45,11 +45,7 @@ impl Answer {
     pub fn told(self, step: Step) -> Result<[u64; 3], Refusal> {
         match self.number {
             0 => Ok(self.values),
-            number => Err(Refusal {
-                step,
-                number,
-                values: self.values,
-            }),
+            number => Err(Refusal { step, number, values: self.values }),
         }
     }
 }

@@ -35,15 +35,7 @@ mod tests {
     #[test]
     fn measures_have_six_digits() {
         let told = [0.0, 0.5, -2.0, 12.3456789, 123456.7, 1e12, f64::INFINITY].map(measure);
-        let expected = [
-            "0.00000",
-            "0.50000",
-            "-2.00000",
-            "12.3457",
-            "123457",
-            "1.00000e12",
-            "inf",
-        ];
+        let expected = ["0.00000", "0.50000", "-2.00000", "12.3457", "123457", "1.00000e12", "inf"];
         assert_eq!(told, expected);
         assert_eq!(measure(f64::NAN), "NaN");
     }

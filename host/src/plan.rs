@@ -53,11 +53,7 @@ impl Plan {
     pub fn new(bounds: Bounds, cell: f32, levels: u32) -> Result<Self, Refusal> {
         let planned = lent::plan(bounds, cell, levels);
         if planned.number != 0 {
-            return Err(Refusal {
-                step: Step::Plan,
-                number: planned.number,
-                values: [0; 3],
-            });
+            return Err(Refusal { step: Step::Plan, number: planned.number, values: [0; 3] });
         }
         Ok(Plan {
             bounds,
@@ -148,17 +144,9 @@ impl Plan {
     /// # Panics
     /// If the level is not one of 1 to L.
     pub fn place(&self, level: u32, octant: [u32; 3]) -> usize {
-        assert!(
-            (1..=self.levels).contains(&level),
-            "no table holds level {level}"
-        );
+        assert!((1..=self.levels).contains(&level), "no table holds level {level}");
         let coarser: usize = (level + 1..=self.levels)
-            .map(|above| {
-                self.count(above)
-                    .map(|n| n as usize)
-                    .iter()
-                    .product::<usize>()
-            })
+            .map(|above| self.count(above).map(|n| n as usize).iter().product::<usize>())
             .sum();
         let [nx, ny, _] = self.count(level).map(|n| n as usize);
         let [i, j, k] = octant.map(|n| n as usize);
@@ -190,11 +178,7 @@ impl Rooms {
     /// cells: an octree has nine at most for a leaf and twelve cells at least.
     fn for_needs(short: &Refusal) -> Self {
         let [cells, vertices, _] = short.values.map(|count| count as usize);
-        let vertices = if vertices == 0 {
-            cells / 4 * 3
-        } else {
-            vertices
-        };
+        let vertices = if vertices == 0 { cells / 4 * 3 } else { vertices };
         Rooms {
             cells: vec![[0; 4]; cells],
             triples: vec![[0; 3]; vertices],

@@ -24,18 +24,10 @@ struct State {
 impl Progress {
     /// A stage that is shown if standard error is a terminal.
     pub fn new(label: &'static str, total: usize) -> Self {
-        let state = stderr().is_terminal().then(|| {
-            Mutex::new(State {
-                done: 0,
-                next: Instant::now() + QUIET,
-                shown: false,
-            })
-        });
-        Progress {
-            label,
-            total,
-            state,
-        }
+        let state = stderr()
+            .is_terminal()
+            .then(|| Mutex::new(State { done: 0, next: Instant::now() + QUIET, shown: false }));
+        Progress { label, total, state }
     }
 
     /// So many more items are done.

@@ -36,10 +36,7 @@ impl fmt::Display for StlError {
             StlError::Text { line, expected } => write!(f, "line {line}: expected {expected}"),
             StlError::Ends { expected } => write!(f, "the file ends where {expected} is expected"),
             StlError::NotFinite { triangle } => {
-                write!(
-                    f,
-                    "triangle {triangle} has a coordinate that is not a finite 32-bit float"
-                )
+                write!(f, "triangle {triangle} has a coordinate that is not a finite 32-bit float")
             }
             StlError::Empty => write!(f, "the file holds no triangles"),
         }
@@ -117,9 +114,7 @@ fn facet(bytes: &[u8]) -> Facet {
 fn checked(triangles: Vec<Facet>) -> Result<Vec<Facet>, StlError> {
     let finite = |triangle: &Facet| triangle.as_flattened().iter().all(|x| x.is_finite());
     match triangles.iter().position(|triangle| !finite(triangle)) {
-        Some(place) => Err(StlError::NotFinite {
-            triangle: place + 1,
-        }),
+        Some(place) => Err(StlError::NotFinite { triangle: place + 1 }),
         None if triangles.is_empty() => Err(StlError::Empty),
         None => Ok(triangles),
     }
@@ -148,19 +143,14 @@ struct Lines<'a> {
 
 impl<'a> Lines<'a> {
     fn new(file: &'a [u8]) -> Self {
-        Lines {
-            rest: file,
-            number: 0,
-        }
+        Lines { rest: file, number: 0 }
     }
 
     /// Takes the next line, with its number counted from 1.
     fn next(&mut self) -> Option<(usize, &'a [u8])> {
         while !self.rest.is_empty() {
             let end = self.rest.iter().position(|byte| *byte == b'\n');
-            let (line, rest) = self
-                .rest
-                .split_at(end.map_or(self.rest.len(), |end| end + 1));
+            let (line, rest) = self.rest.split_at(end.map_or(self.rest.len(), |end| end + 1));
             self.rest = rest;
             self.number += 1;
             if !line.trim_ascii().is_empty() {
@@ -186,10 +176,7 @@ impl<'a> Lines<'a> {
         let mut found = words(line);
         for word in expected {
             if !found.next().is_some_and(|first| is(first, word)) {
-                return Err(StlError::Text {
-                    line: number,
-                    expected: missing,
-                });
+                return Err(StlError::Text { line: number, expected: missing });
             }
         }
         Ok((number, line))
@@ -208,19 +195,12 @@ impl<'a> Lines<'a> {
         let (line, content) = self.line(&["vertex"])?;
         let number = |word: &[u8]| std::str::from_utf8(word).ok()?.parse::<f32>().ok();
         let mut found = words(content).skip(1).map(number);
-        let mut next = || {
-            found.next().flatten().ok_or(StlError::Text {
-                line,
-                expected: "three numbers",
-            })
-        };
+        let mut next =
+            || found.next().flatten().ok_or(StlError::Text { line, expected: "three numbers" });
         let corner = [next()?, next()?, next()?];
         match found.next() {
             None => Ok(corner),
-            Some(_) => Err(StlError::Text {
-                line,
-                expected: "three numbers",
-            }),
+            Some(_) => Err(StlError::Text { line, expected: "three numbers" }),
         }
     }
 }
@@ -262,10 +242,7 @@ mod tests {
     fn a_binary_file_of_another_length_is_refused() {
         let file = to_bytes(&[FACET; 2]);
         for bytes in HEAD..file.len() {
-            let error = StlError::WrongLength {
-                announced: 2,
-                bytes,
-            };
+            let error = StlError::WrongLength { announced: 2, bytes };
             assert_eq!(parse(&file[..bytes]), Err(error));
         }
         let long = [file, vec![0]].concat();
@@ -296,30 +273,18 @@ mod tests {
         let with = |old: &str, new: &str| parse(TEXT.replace(old, new).as_bytes());
         assert_eq!(with("outer loop", "outer"), at(3, "outer"));
         assert_eq!(with("vertex 0 0 0", "vertex 0 0"), at(4, "three numbers"));
-        assert_eq!(
-            with("vertex 0 0 0", "vertex 0 0 0 0"),
-            at(4, "three numbers")
-        );
+        assert_eq!(with("vertex 0 0 0", "vertex 0 0 0 0"), at(4, "three numbers"));
         assert_eq!(with("vertex 0 0 0", "vertex 0 0 O"), at(4, "three numbers"));
         assert_eq!(with("endloop", "vertex 1 1 1"), at(8, "endloop"));
-        assert_eq!(
-            with("endsolid a part\n", ""),
-            Err(StlError::Ends { expected: "facet" })
-        );
-        assert_eq!(
-            parse(&[TEXT, "more"].concat().into_bytes()),
-            at(11, "solid")
-        );
+        assert_eq!(with("endsolid a part\n", ""), Err(StlError::Ends { expected: "facet" }));
+        assert_eq!(parse(&[TEXT, "more"].concat().into_bytes()), at(11, "solid"));
     }
 
     #[test]
     fn coordinates_that_are_not_finite_are_refused() {
         for word in ["nan", "inf", "-inf", "1e39"] {
             let file = TEXT.replace("vertex 1 0 .5", &format!("vertex 1 0 {word}"));
-            assert_eq!(
-                parse(file.as_bytes()),
-                Err(StlError::NotFinite { triangle: 1 })
-            );
+            assert_eq!(parse(file.as_bytes()), Err(StlError::NotFinite { triangle: 1 }));
         }
         let mut facets = [FACET; 4];
         facets[2][1][0] = f32::NAN;
@@ -330,24 +295,15 @@ mod tests {
     #[test]
     fn a_file_without_triangles_is_refused() {
         assert_eq!(parse(&to_bytes(&[])), Err(StlError::Empty));
-        assert_eq!(
-            parse(b"solid nothing\nendsolid nothing\n"),
-            Err(StlError::Empty)
-        );
+        assert_eq!(parse(b"solid nothing\nendsolid nothing\n"), Err(StlError::Empty));
     }
 
     #[test]
     fn every_error_is_one_sentence() {
         let errors = [
             StlError::NotStl,
-            StlError::WrongLength {
-                announced: 2,
-                bytes: 100,
-            },
-            StlError::Text {
-                line: 3,
-                expected: "facet",
-            },
+            StlError::WrongLength { announced: 2, bytes: 100 },
+            StlError::Text { line: 3, expected: "facet" },
             StlError::Ends { expected: "facet" },
             StlError::NotFinite { triangle: 1 },
             StlError::Empty,

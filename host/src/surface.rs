@@ -26,10 +26,7 @@ struct Node {
 impl Surface {
     pub fn new(triangles: &[[[f32; 3]; 3]]) -> Self {
         let mut surface = Surface {
-            triangles: triangles
-                .iter()
-                .map(|triangle| triangle.map(wide))
-                .collect(),
+            triangles: triangles.iter().map(|triangle| triangle.map(wide)).collect(),
             nodes: Vec::new(),
         };
         let mut all = std::mem::take(&mut surface.triangles);
@@ -49,12 +46,7 @@ impl Surface {
         let (low, high) = box_of(part.as_flattened());
         let own = self.nodes.len();
         let count = if part.len() <= LEAF { part.len() } else { 0 };
-        self.nodes.push(Node {
-            low,
-            high,
-            next: first,
-            count,
-        });
+        self.nodes.push(Node { low, high, next: first, count });
         if count > 0 {
             return;
         }
@@ -105,9 +97,7 @@ impl Surface {
 
 fn longest(low: Point, high: Point) -> usize {
     let wide = |axis: &usize| high[*axis] - low[*axis];
-    (0..3)
-        .max_by(|a, b| wide(a).total_cmp(&wide(b)))
-        .unwrap_or(0)
+    (0..3).max_by(|a, b| wide(a).total_cmp(&wide(b))).unwrap_or(0)
 }
 
 fn along(triangle: &Triangle, axis: usize) -> f64 {
@@ -139,9 +129,7 @@ mod tests {
             let (low, high) = box_of(&cell);
             let all = surface.triangles().iter();
             let by_box = all.clone().any(|triangle| meets_box(triangle, low, high));
-            let by_cell = all
-                .clone()
-                .any(|triangle| meets_tetrahedron(triangle, &cell));
+            let by_cell = all.clone().any(|triangle| meets_tetrahedron(triangle, &cell));
             assert_eq!(surface.crosses_box(low, high), by_box);
             assert_eq!(surface.crosses_tetrahedron(&cell), by_cell);
             crossed += usize::from(by_cell);

@@ -8,10 +8,7 @@ use std::path::{Path, PathBuf};
 pub fn check_place(path: &Path) -> io::Result<()> {
     let folder = folder_of(path);
     if !fs::metadata(folder)?.is_dir() {
-        return Err(io::Error::new(
-            ErrorKind::NotADirectory,
-            "its folder is no folder",
-        ));
+        return Err(io::Error::new(ErrorKind::NotADirectory, "its folder is no folder"));
     }
     match fs::metadata(path) {
         Ok(found) if !found.is_file() => {
@@ -48,11 +45,7 @@ fn create_beside(place: &Path) -> io::Result<(PathBuf, File)> {
     loop {
         let name = format!(".sporeferry-{process}-{attempt}.tmp");
         let temporary = folder_of(place).join(name);
-        match OpenOptions::new()
-            .write(true)
-            .create_new(true)
-            .open(&temporary)
-        {
+        match OpenOptions::new().write(true).create_new(true).open(&temporary) {
             Err(error) if error.kind() == ErrorKind::AlreadyExists && attempt < 100 => attempt += 1,
             opened => return Ok((temporary, opened?)),
         }

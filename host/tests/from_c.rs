@@ -5,9 +5,7 @@ use std::path::PathBuf;
 use std::process::Command;
 
 fn from_root(path: &str) -> PathBuf {
-    PathBuf::from(env!("CARGO_MANIFEST_DIR"))
-        .join("..")
-        .join(path)
+    PathBuf::from(env!("CARGO_MANIFEST_DIR")).join("..").join(path)
 }
 
 /// Compiles and runs the example; the lines it prints.
@@ -36,16 +34,11 @@ fn run_example() -> Vec<String> {
 fn every_step_answers_c_as_it_answers_rust() {
     let lines = run_example();
     let values = |step: &str| -> Vec<u64> {
-        let line = lines
-            .iter()
-            .find(|line| line.split_whitespace().next() == Some(step));
+        let line = lines.iter().find(|line| line.split_whitespace().next() == Some(step));
         let numbers = line.unwrap().split_whitespace().skip(2);
         numbers.map(|word| word.parse().unwrap()).collect()
     };
-    let bounds = Bounds {
-        min: [0.0; 3],
-        max: [4.0; 3],
-    };
+    let bounds = Bounds { min: [0.0; 3], max: [4.0; 3] };
     let plan = Plan::new(bounds, 1.0, 1).unwrap();
     let planned = "plan            10 x 10 x 10 roots from -3, unit 0.25, 1000 octants";
     assert_eq!(lines[0], planned);
@@ -66,14 +59,8 @@ fn every_step_answers_c_as_it_answers_rust() {
     let (kept, crust) = (values("keep_cover"), values("keep_crust"));
     assert_eq!(values("representatives"), [2, 0, 0]);
     assert!(crust[0] < kept[0] && crust[1] < kept[1] && kept[1] < cells && kept[2] == 0);
-    assert_eq!(
-        (values("components"), values("one_piece")),
-        (vec![1, 0, 0], vec![1, 0, 0])
-    );
-    assert_eq!(
-        values("write_mesh"),
-        [12 + 12 * kept[0] + 20 * kept[1], 0, 0]
-    );
+    assert_eq!((values("components"), values("one_piece")), (vec![1, 0, 0], vec![1, 0, 0]));
+    assert_eq!(values("write_mesh"), [12 + 12 * kept[0] + 20 * kept[1], 0, 0]);
     assert_eq!(values("read_mesh"), [kept[0], kept[1], 0]);
     assert!(lines.last().unwrap().ends_with("the same mesh"));
 }

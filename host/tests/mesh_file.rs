@@ -26,21 +26,10 @@ fn model(file: &[u8]) -> Result<Mesh, u32> {
     }
     let coordinates: Vec<f32> = numbers(points).into_iter().map(f32::from_bits).collect();
     let mesh = Mesh {
-        points: coordinates
-            .chunks(3)
-            .map(|p| p.try_into().unwrap())
-            .collect(),
-        cells: numbers(cells)
-            .chunks(4)
-            .map(|c| c.try_into().unwrap())
-            .collect(),
+        points: coordinates.chunks(3).map(|p| p.try_into().unwrap()).collect(),
+        cells: numbers(cells).chunks(4).map(|c| c.try_into().unwrap()).collect(),
     };
-    if mesh
-        .cells
-        .as_flattened()
-        .iter()
-        .any(|p| *p as usize >= mesh.points.len())
-    {
+    if mesh.cells.as_flattened().iter().any(|p| *p as usize >= mesh.points.len()) {
         return Err(8);
     }
     if numbers(components) != component_numbers(&mesh.cells) {
@@ -101,10 +90,7 @@ fn small_meshes() -> Vec<Mesh> {
         };
         (0..count).map(at).collect()
     };
-    let mesh = |count, cells: &[[u32; 4]]| Mesh {
-        points: points(count),
-        cells: cells.to_vec(),
-    };
+    let mesh = |count, cells: &[[u32; 4]]| Mesh { points: points(count), cells: cells.to_vec() };
     vec![
         mesh(0, &[]),
         mesh(2, &[]),
@@ -118,10 +104,7 @@ fn small_meshes() -> Vec<Mesh> {
 fn what_is_written_reads_back() {
     for mesh in small_meshes() {
         let file = mesh.to_bytes().unwrap();
-        assert_eq!(
-            file.len(),
-            12 + 12 * mesh.points.len() + 20 * mesh.cells.len()
-        );
+        assert_eq!(file.len(), 12 + 12 * mesh.points.len() + 20 * mesh.cells.len());
         assert_eq!(bits(&Mesh::from_bytes(&file).unwrap()), bits(&mesh));
         assert_eq!(agrees(&file), Ok(()));
     }

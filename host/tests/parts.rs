@@ -9,11 +9,7 @@ use sporeferry::part::Part;
 use sporeferry::Mesh;
 
 fn covered(part: &Part, cell: f32, levels: u32) -> Covered {
-    let request = Request {
-        cell,
-        levels,
-        crust: false,
-    };
+    let request = Request { cell, levels, crust: false };
     cover(part, request).unwrap()
 }
 
@@ -29,10 +25,7 @@ fn comes_down(part: &Part, steps: &[(f32, u32)]) {
         let mesh = covered.mesh;
         assert_eq!((covered.pieces, mesh.one_piece()), (1, Ok(true)));
         let beyond = mesh.volume() - volume;
-        assert!(
-            0.0 < beyond && beyond < 0.6 * before,
-            "{beyond} at {cell}, before {before}"
-        );
+        assert!(0.0 < beyond && beyond < 0.6 * before, "{beyond} at {cell}, before {before}");
         before = beyond;
         assert_eq!(Mesh::from_bytes(&mesh.to_bytes().unwrap()), Ok(mesh));
     }
@@ -54,10 +47,7 @@ fn a_torus() {
 
 #[test]
 fn the_socket() {
-    let file = std::fs::read(concat!(
-        env!("CARGO_MANIFEST_DIR"),
-        "/../examples/socket.stl"
-    ));
+    let file = std::fs::read(concat!(env!("CARGO_MANIFEST_DIR"), "/../examples/socket.stl"));
     let part = Part::from_stl(&file.unwrap()).unwrap();
     comes_down(&part, &[(12.0, 0), (6.0, 0), (6.0, 1), (6.0, 2)]);
 }
@@ -122,16 +112,11 @@ fn one_probe_for_a_group_is_as_good_as_one_for_each_cell() {
     let surface = &part.surface;
     let plan = sporeferry::Plan::new(part.bounds, 2.0, 0).unwrap();
     let grid = plan.grid(&[]).unwrap();
-    let whole = Mesh {
-        points: grid.points.clone(),
-        cells: grid.cells.clone(),
-    };
-    let deserved = centroids(&whole)
-        .zip(&grid.cells)
-        .filter(|(centroid, cell)| {
-            let crossed = surface.crosses_tetrahedron(&corners(&whole, cell));
-            crossed || is_inside(surface.triangles(), *centroid)
-        });
+    let whole = Mesh { points: grid.points.clone(), cells: grid.cells.clone() };
+    let deserved = centroids(&whole).zip(&grid.cells).filter(|(centroid, cell)| {
+        let crossed = surface.crosses_tetrahedron(&corners(&whole, cell));
+        crossed || is_inside(surface.triangles(), *centroid)
+    });
     let covered = covered(&part, 2.0, 0);
     assert_eq!(covered.dropped, 0);
     assert_eq!(covered.mesh.cells.len(), deserved.count());
@@ -140,11 +125,7 @@ fn one_probe_for_a_group_is_as_good_as_one_for_each_cell() {
 #[test]
 fn a_crust_is_hollow_and_needs_no_closed_surface() {
     let sphere = shapes::sphere(10.0);
-    let request = |crust| Request {
-        cell: 2.0,
-        levels: 1,
-        crust,
-    };
+    let request = |crust| Request { cell: 2.0, levels: 1, crust };
     let closed = Part::new(&sphere);
     let crust = cover(&closed, request(true)).unwrap();
     assert_eq!(crust.mesh.cells.len(), crust.cells.crossed);
@@ -152,32 +133,19 @@ fn a_crust_is_hollow_and_needs_no_closed_surface() {
 
     let open = Part::new(&sphere[1..]);
     assert!(cover(&open, request(true)).is_ok());
-    assert_eq!(
-        cover(&open, request(false)).unwrap_err(),
-        CoverError::Open(3)
-    );
+    assert_eq!(cover(&open, request(false)).unwrap_err(), CoverError::Open(3));
 }
 
 #[test]
 fn refusals_of_the_library_come_through() {
     let part = Part::new(&shapes::sphere(10.0));
     let number = |cell, levels| {
-        let request = Request {
-            cell,
-            levels,
-            crust: false,
-        };
+        let request = Request { cell, levels, crust: false };
         match cover(&part, request) {
             Err(CoverError::Refused(refusal)) => refusal.number,
             _ => 0,
         }
     };
-    assert_eq!(
-        (number(0.0, 1), number(f32::NAN, 0), number(-1.0, 2)),
-        (1, 1, 1)
-    );
-    assert_eq!(
-        (number(1.0, 6), number(0.01, 1), number(0.01, 0)),
-        (3, 4, 4)
-    );
+    assert_eq!((number(0.0, 1), number(f32::NAN, 0), number(-1.0, 2)), (1, 1, 1));
+    assert_eq!((number(1.0, 6), number(0.01, 1), number(0.01, 0)), (3, 4, 4));
 }

@@ -21,11 +21,7 @@ fn run(folder: &Folder, words: &str) -> (i32, String, String) {
     let tool = tool.args(words.split_whitespace()).current_dir(&folder.0);
     let done = tool.output().unwrap();
     let text = |bytes: Vec<u8>| String::from_utf8(bytes).unwrap();
-    (
-        done.status.code().unwrap(),
-        text(done.stdout),
-        text(done.stderr),
-    )
+    (done.status.code().unwrap(), text(done.stdout), text(done.stderr))
 }
 
 /// The tool fails with one sentence that holds this, and leaves the folder as it was.
@@ -34,31 +30,18 @@ fn fails(folder: &Folder, words: &str, status: i32, holds: &str) {
     let (code, out, error) = run(folder, words);
     assert_eq!((code, out.as_str()), (status, ""), "{words}: {error}");
     assert!(error.contains(holds), "{words}: {error}");
-    assert!(
-        error.starts_with("sporeferry: ") && error.lines().count() == 1,
-        "{error}"
-    );
+    assert!(error.starts_with("sporeferry: ") && error.lines().count() == 1, "{error}");
     assert_eq!(folder.names(), before);
 }
 
 #[test]
 fn a_part_is_covered_and_looked_at() {
-    let folder = with(
-        Folder::new("covered"),
-        &[("ball.stl", &stl::to_bytes(&shapes::sphere(10.0)))],
-    );
+    let folder =
+        with(Folder::new("covered"), &[("ball.stl", &stl::to_bytes(&shapes::sphere(10.0)))]);
     let (code, out, error) = run(&folder, "cover ball.stl --cell 4 --levels 2 -o ball.mesh");
     assert_eq!((code, error.as_str()), (0, ""));
-    for word in [
-        "octants",
-        "split",
-        "cells",
-        "kept",
-        "dropped  0",
-        "points",
-        "pieces   1",
-        "bytes",
-    ] {
+    for word in ["octants", "split", "cells", "kept", "dropped  0", "points", "pieces   1", "bytes"]
+    {
         assert!(out.contains(word), "{word} is not in\n{out}");
     }
     assert_eq!(folder.names(), ["ball.mesh", "ball.stl"]);
@@ -67,14 +50,7 @@ fn a_part_is_covered_and_looked_at() {
 
     let (code, out, error) = run(&folder, "info ball.mesh");
     assert_eq!((code, error.as_str()), (0, ""));
-    for word in [
-        "reads",
-        "points",
-        "cells",
-        "pieces   1",
-        "box      x -1",
-        "volume",
-    ] {
+    for word in ["reads", "points", "cells", "pieces   1", "box      x -1", "volume"] {
         assert!(out.contains(word), "{word} is not in\n{out}");
     }
     let (code, out, _) = run(&folder, "cover ball.stl --cell 4 --crust -o ball.mesh");
@@ -101,49 +77,28 @@ fn a_part_that_cannot_be_covered_leaves_nothing_behind() {
         ("ball.stl --cell 0 -o new.mesh", "refusal 1 of plan"),
         ("ball.stl --cell nan -o new.mesh", "refusal 1 of plan"),
         ("ball.stl --cell -3 -o new.mesh", "refusal 1 of plan"),
-        (
-            "ball.stl --cell 1 --levels 6 -o old.mesh",
-            "refusal 3 of plan",
-        ),
+        ("ball.stl --cell 1 --levels 6 -o old.mesh", "refusal 3 of plan"),
         ("ball.stl --cell 1e-20 -o old.mesh", "refusal 4 of plan"),
         ("ball.stl --cell 1e38 -o old.mesh", "refusal 4 of plan"),
         ("open.stl --cell 4 -o new.mesh", "open or turns over"),
         ("short.stl --cell 4 -o new.mesh", "this one has 5000"),
-        (
-            "text.stl --cell 4 -o new.mesh",
-            "line 4: expected three numbers",
-        ),
+        ("text.stl --cell 4 -o new.mesh", "line 4: expected three numbers"),
         ("empty.stl --cell 4 -o new.mesh", "not an STL file"),
         ("missing.stl --cell 4 -o new.mesh", "missing.stl: "),
         (". --cell 4 -o new.mesh", ".: "),
-        (
-            "ball.stl --cell 4 -o missing/new.mesh",
-            "missing/new.mesh: ",
-        ),
-        (
-            "ball.stl --cell 4 -o .",
-            ".: it is there and is no ordinary file",
-        ),
-        (
-            "ball.stl --cell 4 -o /dev/null",
-            "/dev/null: it is there and is no ordinary file",
-        ),
-        ("ball.stl --cell 4 -o ./ball.stl", "the place of the part"),
+        ("ball.stl --cell 4 -o missing/new.mesh", "missing/new.mesh: "),
+        ("ball.stl --cell 4 -o .", ".: it is there and is no ordinary file"),
+        ("ball.stl --cell 4 -o /dev/null", "/dev/null: it is there and is no ordinary file"),
+        ("ball.stl --cell 4 -o ./ball.stl", "ball.stl: it is the file to be read"),
     ] {
         fails(&folder, &format!("cover {words}"), 1, holds);
     }
-    assert_eq!(
-        fs::read(folder.0.join("old.mesh")).unwrap(),
-        b"kept as it was"
-    );
+    assert_eq!(fs::read(folder.0.join("old.mesh")).unwrap(), b"kept as it was");
 }
 
 #[test]
 fn a_file_that_does_not_read_is_explained() {
-    let mesh = Mesh {
-        points: vec![[0.0; 3]; 5],
-        cells: vec![[0, 1, 2, 3], [1, 2, 3, 4]],
-    };
+    let mesh = Mesh { points: vec![[0.0; 3]; 5], cells: vec![[0, 1, 2, 3], [1, 2, 3, 4]] };
     let file = mesh.to_bytes().unwrap();
     let changed = |place: usize| {
         let mut copy = file.clone();
@@ -160,19 +115,10 @@ fn a_file_that_does_not_read_is_explained() {
         ],
     );
     for (name, holds) in [
-        (
-            "cut.mesh",
-            "cut.mesh: refusal 11 of read mesh: the file ends inside",
-        ),
-        (
-            "long.mesh",
-            "refusal 12 of read mesh: the file has bytes after",
-        ),
+        ("cut.mesh", "cut.mesh: refusal 11 of read mesh: the file ends inside"),
+        ("long.mesh", "refusal 12 of read mesh: the file has bytes after"),
         ("point.mesh", "refusal 8 of read mesh: a cell names a point"),
-        (
-            "pieces.mesh",
-            "refusal 13 of read mesh: the component numbers",
-        ),
+        ("pieces.mesh", "refusal 13 of read mesh: the component numbers"),
         ("missing.mesh", "missing.mesh: "),
     ] {
         fails(&folder, &format!("info {name}"), 1, holds);
@@ -185,13 +131,7 @@ fn words_are_understood_or_not() {
     let (code, out, error) = run(&folder, "--help");
     assert_eq!((code, error.as_str()), (0, ""));
     assert!(out.contains("sporeferry cover PART.stl --cell C [--levels L] [--crust] -o PART.mesh"));
-    for words in [
-        "",
-        "smooth a.mesh",
-        "cover a.stl",
-        "info",
-        "cover a.stl --cell four -o a.mesh",
-    ] {
+    for words in ["", "smooth a.mesh", "cover a.stl", "info", "cover a.stl --cell four -o a.mesh"] {
         fails(&folder, words, 2, "sporeferry --help tells how");
     }
 }
@@ -200,16 +140,8 @@ fn words_are_understood_or_not() {
 #[test]
 fn a_full_disk_is_a_failure_of_info() {
     let folder = with(Folder::new("full"), &[("a.mesh", &[0; 12])]);
-    let full = fs::OpenOptions::new()
-        .write(true)
-        .open("/dev/full")
-        .unwrap();
+    let full = fs::OpenOptions::new().write(true).open("/dev/full").unwrap();
     let mut tool = Command::new(env!("CARGO_BIN_EXE_sporeferry"));
-    let done = tool
-        .args(["info", "a.mesh"])
-        .current_dir(&folder.0)
-        .stdout(full)
-        .output()
-        .unwrap();
+    let done = tool.args(["info", "a.mesh"]).current_dir(&folder.0).stdout(full).output().unwrap();
     assert_eq!(done.status.code(), Some(1));
 }

@@ -30,12 +30,7 @@ pub fn torus(radius: f64, tube: f64) -> Vec<Facet> {
 
 /// A ball of triangles: an octahedron, each side halved some times and pushed out to the radius.
 pub fn sphere(radius: f64) -> Vec<Facet> {
-    let tips = [
-        [1.0, 0.0, 0.0],
-        [0.0, 1.0, 0.0],
-        [-1.0, 0.0, 0.0],
-        [0.0, -1.0, 0.0],
-    ];
+    let tips = [[1.0, 0.0, 0.0], [0.0, 1.0, 0.0], [-1.0, 0.0, 0.0], [0.0, -1.0, 0.0]];
     let mut triangles: Vec<[[f64; 3]; 3]> = Vec::new();
     for k in 0..4 {
         let (a, b) = (tips[k], tips[(k + 1) % 4]);
