@@ -9,7 +9,7 @@ use native.Mathlib.Numerals.{add-one}
 use lib.Dec.{eqb}
 use lib.ListN.{length}
 use lib.Pow.{pow-pos, pow-mono}
-use Rattle.octants.specs.Oct.{Axis, ax, ay, az, Pos, pos}
+use Rattle.octants.specs.Oct.{Axis, ax, ay, az, Pos, pos, In}
 use Rattle.octants.specs.Table.{off, size, depth, read, bit}
 use Rattle.octants.specs.Levels.{Dims}
 use Rattle.cells.specs.Cells.{leafCells}
@@ -100,16 +100,19 @@ unfolding levelOf
 level-is nx ny nz l zero k w n e f = absurd (n refl)
 level-is nx ny nz l (suc m) k w n e f = rw (f, one-mul, e, off-closed (pos nx ny nz) (l - suc m)) refl
 
--- a leaf's place is small
+-- a place is small
+pub in-small : (nx ny nz l m : ℕ) (x : Pos) → Dims nx ny nz → l ≤ 5 → In l (pos nx ny nz) m x → (x ax < 2048) × (x ay < 2048) × (x az < 2048)
+in-small nx ny nz l m x h f p =
+    let e : l - m ≤ 5 = omega arith in
+    let w : 2 ^ (l - m) ≤ 32 = pow-mono e in
+    let i : nx * 2 ^ (l - m) ≤ 64 * 32 = mul-le-mul (h .x-few) w in
+    let j : ny * 2 ^ (l - m) ≤ 64 * 32 = mul-le-mul (h .y-few) w in
+    let k : nz * 2 ^ (l - m) ≤ 64 * 32 = mul-le-mul (h .z-few) w in
+    (lt-of-lt-of-le (p ax) i, lt-of-lt-of-le (p ay) j, lt-of-lt-of-le (p az) k)
+
 pub place-small : (s : List ℕ) (nx ny nz l m i j k : ℕ) → Taken s nx ny nz l → IsLeaf l (pos nx ny nz) (read (pos nx ny nz) l s) m (pos i j k)
     → (i < 2048) × (j < 2048) × (k < 2048)
-place-small s nx ny nz l m i j k h leaf =
-    let e : l - m ≤ 5 = omega (arith, h .few) in
-    let w : 2 ^ (l - m) ≤ 32 = pow-mono e in
-    let x : nx * 2 ^ (l - m) ≤ 64 * 32 = mul-le-mul (h .dims .x-few) w in
-    let y : ny * 2 ^ (l - m) ≤ 64 * 32 = mul-le-mul (h .dims .y-few) w in
-    let z : nz * 2 ^ (l - m) ≤ 64 * 32 = mul-le-mul (h .dims .z-few) w in
-    (lt-of-lt-of-le (leaf .inside ax) x, lt-of-lt-of-le (leaf .inside ay) y, lt-of-lt-of-le (leaf .inside az) z)
+place-small s nx ny nz l m i j k h leaf = in-small nx ny nz l m (pos i j k) (h .dims) (h .few) (leaf .inside)
 
 module _ (s : List ℕ) (nx ny nz l m i j k : ℕ) (h : Taken s nx ny nz l) (leaf : IsLeaf l (pos nx ny nz) (read (pos nx ny nz) l s) m (pos i j k)) where
   pub both-held : (here above : Level) → here ≡ levelOf (pos nx ny nz) l m → above ≡ levelOf (pos nx ny nz) l (m + 1) → Held s here × Held s above

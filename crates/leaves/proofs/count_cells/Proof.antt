@@ -1,0 +1,20 @@
+use borrow.Author.Needs.{needs}
+use mathlib.Core.Path.{refl}
+use Rattle.leaves.proofs.Walking.{all-counted}
+use Rattle.leaves.proofs.count_cells.Statement.{statement}
+use Rattle.leaves.proofs.count_cells.Tie as tie
+use Rattle.leaves.proofs.count_cells.Reads as reads
+use Rattle.leaves.proofs.count_cells.Lts as lts
+use Rattle.leaves.proofs.walk_roots.Reads as walk-roots-reads
+
+slice-aggregate-walk-roots : tie.Need-slice-aggregate-walk-roots
+slice-aggregate-walk-roots c = search needs
+
+walk-roots-requires : tie.Need-walk-roots-requires
+walk-roots-requires c κs = search needs
+
+returns : tie.Need-returns
+returns c = all-counted _ _ _ _ _ _ _ _ (c .before .walk-roots .ensures) refl
+
+pub count-cells-spec : {M : Type 1} → statement M
+count-cells-spec = tie.close (tie.spec slice-aggregate-walk-roots walk-roots-requires returns)
