@@ -3,8 +3,44 @@
 ghost use mathlib.Core.Path.{_≡_};
 ghost use Prim.Native.Nat.{_+_, _<_};
 ghost use lib.ListN.{length, getD};
+ghost use Rattle.lists.specs.Ladder.{first};
+ghost use Rattle.groups.specs.Judged.{sizeRows, crossedRows};
 ghost use Rattle.groups.specs.Settled.{RootAsked, RootNoted, Linked, Rooting, LastAsked, LastNoted, Sized, Labelled};
 use lists::wide;
+
+// The number that the lengths of points, cells and answers are refused with, and a work table shorter than `need`: 4, 5, or 0.
+pub fn judge_sizes(points: usize, cells: usize, answers: usize, room: usize, need: usize) -> u32
+    ensures { λ r. ⌜ r ≡ first (sizeRows points cells answers room need) ⌝ }
+{
+    let number = lists::judge_lengths(points, cells);
+    if number != 0 {
+        return number;
+    }
+    if answers != cells / 4 {
+        return 5;
+    }
+    if room < need {
+        return 5;
+    }
+    0
+}
+
+// The same with the tables themselves: 4, 5, 6, 8, or 0.
+pub fn judge(points: usize, cells: &[u32], crossing: &[u8], room: usize, need: usize) -> u32
+    ensures { λ r. ⌜ r ≡ first (crossedRows points (now (cells .entry)) (now (crossing .entry)) room need) ⌝ }
+{
+    let number = judge_sizes(points, cells.len(), crossing.len(), room, need);
+    if number != 0 {
+        return number;
+    }
+    if !lists::all_at_most(crossing, 1) {
+        return 6;
+    }
+    if !lists::all_below(cells, points / 3) {
+        return 8;
+    }
+    0
+}
 
 // Stores the root of the cell's first vertex in the cell's entry, unless the cell is crossed.
 fn note_root(cells: &[u32], crossing: &[u8], work: &mut [u32], n: usize, i: usize)

@@ -53,6 +53,14 @@ past (k when false ∷ a) b h = past a b (λ i. h (suc i))
 pub goes-on : (a b : List Row) {r : ℕ} → proper a ≡ true → r ≡ first a → r ≡ 0 → first (a ++ b) ≡ first b
 goes-on a b h e z = past a b (clear a h (sym e ∙ z))
 
+-- where no row's cause is there, none is in the front
+pub front-clear : (a b : List Row) → first (a ++ b) ≡ 0 → first a ≡ 0
+front-clear a b e = go (eqOr (first a) 0)
+  where
+    go : (first a ≡ 0) ⊎ (first a ≢ 0) → first a ≡ 0
+    go (inl z) = z
+    go (inr d) = stops a b refl d ∙ e
+
 pub lengths-proper : (p c : ℕ) → proper (lengthRows p c) ≡ true
 unfolding proper lengthRows
 lengths-proper p c = refl

@@ -1,7 +1,8 @@
 -- Laws of runs. Assumes nothing.
 use mathlib.Core.Path.{_≡_, refl, sym, ap, ap₂, subst, _∙_}
-use mathlib.Core.List.{List, [], _∷_, _++_, append-nil}
+use mathlib.Core.List.{List, [], _∷_, _++_, append-nil, append-assoc}
 use Prim.Native.Nat.{ℕ, zero, suc, _+_, _*_, _-_, _≤_, _<_}
+use native.Mathlib.Nat.{zero-add, suc-add}
 use native.Mathlib.Numerals.{add-one}
 use native.Mathlib.Omega.{arith}
 use lib.ListN.{length, length-append}
@@ -28,6 +29,35 @@ unfolding run
 run-same zero f g i h = refl
 run-same (suc n) f g i h =
     ap₂ (λ a b. a ++ b) (h i (omega arith) (omega arith)) (run-same n f g (suc i) (λ j a b. h j (omega arith) (omega arith)))
+
+-- a run taken apart, and one more turn at its end
+pub run-split : {A : Type 0} (a b : ℕ) (f : ℕ → List A) (i : ℕ) → run (a + b) f i ≡ run a f i ++ run b f (i + a)
+unfolding run
+run-split zero b f i = let e : i ≡ i + 0 = omega arith in rw (zero-add b) (ap (run b f) e)
+run-split (suc a) b f i =
+    let e : suc i + a ≡ i + suc a = omega arith in
+    rw (suc-add)
+    (ap (λ (l : List _). f i ++ l) (run-split a b f (suc i) ∙ ap (λ (k : ℕ). run a f (suc i) ++ run b f k) e)
+    ∙ sym (append-assoc (f i) (run a f (suc i)) (run b f (i + suc a))))
+
+pub run-last : {A : Type 0} (f : ℕ → List A) (i : ℕ) → run (i + 1) f 0 ≡ run i f 0 ++ f i
+unfolding run
+run-last f i =
+    let e : 0 + i ≡ i = omega arith in
+    run-split i 1 f 0 ∙ ap (λ (l : List _). run i f 0 ++ l) (append-nil (f (0 + i)) ∙ ap f e)
+
+-- a turn below n has its room in the whole run
+pub run-room : (n : ℕ) (f : ℕ → List ℕ) (i : ℕ) → i < n → length (run i f 0) + length (f i) ≤ length (run n f 0)
+run-room n f i h =
+    let e : n ≡ (i + 1) + (n - (i + 1)) = omega arith in
+    omega (
+      arith,
+      ap (λ (k : ℕ). length (run k f 0)) e,
+      ap length (run-split (i + 1) (n - (i + 1)) f 0),
+      length-append (run (i + 1) f 0) (run (n - (i + 1)) f (0 + (i + 1))),
+      ap length (run-last f i),
+      length-append (run i f 0) (f i),
+    )
 
 -- what keeps the empty list and the joining of two
 module _ {A B : Type 0} (h : List A → List B) (none : h [] ≡ []) (both : (a b : List A) → h (a ++ b) ≡ h a ++ h b) where

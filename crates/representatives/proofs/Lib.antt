@@ -1,0 +1,3 @@
+-- Laws that the proofs of representatives share.
+pub mod Listing
+pub mod Steps

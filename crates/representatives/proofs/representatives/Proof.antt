@@ -1,0 +1,57 @@
+use mathlib.Core.Path.{_≡_, refl, sym, ap, _∙_}
+use lib.Seq.{length-take-le}
+use Rattle.representatives.proofs.Steps.{refused, settling, done}
+use Rattle.groups.proofs.Judging.{crossed-fit}
+use mathlib.Core.List.{[]}
+use borrow.Author.Needs.{needs}
+use Rattle.representatives.proofs.representatives.Statement.{statement}
+use Rattle.representatives.proofs.representatives.Tie as tie
+use Rattle.representatives.proofs.representatives.Reads as reads
+use Rattle.representatives.proofs.representatives.Lts as lts
+use Rattle.groups.proofs.judge.Reads as judge-reads
+use Rattle.representatives.proofs.represent.Reads as represent-reads
+
+add-need : tie.Need-add-need
+add-need c = search needs
+
+judge-requires : tie.Need-judge-requires
+judge-requires c κs = search needs
+
+returns : tie.Need-returns
+returns c = refused _ _ _ _ _ _ (c .before .judge .ensures) (c .if1 .taken)
+
+slice-relend-prefix-represent : tie.Need-slice-relend-prefix-represent
+slice-relend-prefix-represent c = crossed-fit _ _ _ _ _ (sym (c .before .before .before .judge .ensures) ∙ c .before .before .if1 .left) .work
+
+slice-aggregate-represent : tie.Need-slice-aggregate-represent
+slice-aggregate-represent c = sym (length-take-le _ _ (crossed-fit _ _ _ _ _ (sym (c .before .before .before .before .judge .ensures) ∙ c .before .before .before .if1 .left) .work))
+
+represent-requires : tie.Need-represent-requires
+represent-requires c κs = settling _ _ _ [] [] _ (sym (c .before .before .before .before .judge .ensures) ∙ c .before .before .before .if1 .left)
+
+same-length : tie.Need-same-length
+same-length c = search needs
+
+same-length-2 : tie.Need-same-length-2
+same-length-2 c = search needs
+
+same-length-3 : tie.Need-same-length-3
+same-length-3 c = search needs
+
+returns-2 : tie.Need-returns-2
+returns-2 c = done _ _ _ _ _ _ (sym (c .before .before .before .before .before .before .before .before .before .before .before .judge .ensures) ∙ c .before .before .before .before .before .before .before .before .before .before .if1 .left) (c .before .before .before .before .before .before .represent .ensures .0) (c .before .before .before .before .before .before .represent .ensures .1)
+
+pub representatives-spec : {M : Type 1} → statement M
+representatives-spec =
+    tie.close
+    (tie.spec
+    add-need
+    judge-requires
+    returns
+    slice-relend-prefix-represent
+    slice-aggregate-represent
+    represent-requires
+    same-length
+    same-length-2
+    same-length-3
+    returns-2)

@@ -1,0 +1,3 @@
+-- The definitions that the contracts of representatives cite.
+pub mod Highest
+pub mod Step
