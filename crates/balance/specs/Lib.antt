@@ -1,0 +1,3 @@
+-- The balance by the shell, and the test that a table is balanced.
+pub mod Shell
+pub mod Sweep
