@@ -2,3 +2,5 @@
 pub mod Sections
 pub mod Writing
 pub mod Reading
+pub mod RoundTrip
+pub mod Meaning
