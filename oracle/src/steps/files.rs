@@ -9,7 +9,7 @@ use crate::lent::Lent;
 use crate::random::Random;
 use crate::report::Report;
 
-fn write(random: &mut Random, format: Format, sample: &Sample, report: &mut Report) {
+pub fn write(random: &mut Random, format: Format, sample: &Sample) -> WriteCall {
     let file = format.encode(sample.mesh()).len();
     let mut cells = sample.cells.clone();
     if !cells.is_empty() && random.once_in(10) {
@@ -18,7 +18,7 @@ fn write(random: &mut Random, format: Format, sample: &Sample, report: &mut Repo
     }
     let points = sample.points.len();
     let room = lengths(random, [points, cells.len(), file, 2 * (points / 3)]);
-    let call = WriteCall {
+    WriteCall {
         format,
         input: Input::new(
             &resized(&sample.points, room[0], 0),
@@ -26,18 +26,17 @@ fn write(random: &mut Random, format: Format, sample: &Sample, report: &mut Repo
         ),
         file: Lent::new(&random.dirt_bytes(room[2])),
         work: Lent::new(&random.dirt(room[3])),
-    };
-    compare(&call, report);
+    }
 }
 
 /// A file to be read, and the lengths of points, cells and work that its mesh needs.
-struct Reading {
-    format: Format,
-    needs: [usize; 3],
+pub struct Reading {
+    pub format: Format,
+    pub needs: [usize; 3],
 }
 
 impl Reading {
-    fn of(format: Format, sample: &Sample) -> Self {
+    pub fn of(format: Format, sample: &Sample) -> Self {
         let (points, cells) = (sample.points.len(), sample.cells.len());
         Self {
             format,
@@ -45,21 +44,50 @@ impl Reading {
         }
     }
 
-    fn read(&self, random: &mut Random, file: &[u8], room: [usize; 3], report: &mut Report) {
-        let call = ReadCall {
+    pub fn call(&self, random: &mut Random, file: &[u8], room: [usize; 3]) -> ReadCall {
+        ReadCall {
             format: self.format,
             file: Lent::new(file),
             points: Lent::new(&random.dirt(room[0])),
             cells: Lent::new(&random.dirt(room[1])),
             work: Lent::new(&random.dirt(room[2])),
-        };
-        compare(&call, report);
+        }
+    }
+
+    fn read(&self, random: &mut Random, file: &[u8], room: [usize; 3], report: &mut Report) {
+        compare(&self.call(random, file, room), report);
     }
 
     /// With more room than needed, so that a changed count is no refusal by itself.
     fn read_with_room(&self, random: &mut Random, file: &[u8], report: &mut Report) {
         self.read(random, file, self.needs.map(|need| need + 12), report);
     }
+}
+
+/// The file with one of its cells' vertices set to the first point that is not there.
+fn naming_missing(random: &mut Random, format: Format, sample: &Sample, file: &[u8]) -> Vec<u8> {
+    let vertex = random.below(sample.cells.len());
+    let (cells, count) = (
+        sample.mesh().cell_count(),
+        sample.mesh().point_count() as u32,
+    );
+    let (at, bytes) = match format {
+        Format::Mesh => (
+            8 + 4 * sample.points.len() + 4 * vertex,
+            count.to_le_bytes(),
+        ),
+        Format::Vtk => {
+            let line = format!("CELLS {cells} {}\n", 5 * cells);
+            let found = file
+                .windows(line.len())
+                .position(|part| part == line.as_bytes());
+            let start = found.expect("a line of cells") + line.len();
+            (start + 4 * (vertex + vertex / 4 + 1), count.to_be_bytes())
+        }
+    };
+    let mut missing = file.to_vec();
+    missing[at..at + 4].copy_from_slice(&bytes);
+    missing
 }
 
 /// Reads a file with rooms of every kind, then damaged.
@@ -73,6 +101,10 @@ fn read(random: &mut Random, format: Format, sample: &Sample, report: &mut Repor
         reading.read(random, &damaged, room, report);
         let trailed = damage::trailed(random, &file);
         reading.read(random, &trailed, room, report);
+        if !sample.cells.is_empty() {
+            let missing = naming_missing(random, format, sample, &file);
+            reading.read(random, &missing, room, report);
+        }
     }
 }
 
@@ -128,7 +160,7 @@ fn hostile(random: &mut Random, report: &mut Report) {
 fn random_files(random: &mut Random, format: Format, sizes: &Sizes, report: &mut Report) {
     for _ in 0..sizes.files {
         let sample = any(random);
-        write(random, format, &sample, report);
+        compare(&write(random, format, &sample), report);
         read(random, format, &sample, report);
     }
 }

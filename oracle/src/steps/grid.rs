@@ -9,17 +9,18 @@ use crate::lent::Lent;
 use crate::library::Bounds;
 use crate::random::Random;
 use crate::report::Report;
+use lifted::lent::Layout;
 use std::rc::Rc;
 
 /// A grid with what is expected of it.
-struct Asked {
+pub struct Asked {
     plan: PlanCall,
     split: Vec<u8>,
     found: Rc<Result<Grid, u32>>,
 }
 
 impl Asked {
-    fn new(plan: &PlanCall, split: Vec<u8>) -> Self {
+    pub fn new(plan: &PlanCall, split: Vec<u8>) -> Self {
         let found = found(&plan.bounds, plan.c, plan.levels, &split);
         Self {
             plan: plan.clone(),
@@ -29,7 +30,7 @@ impl Asked {
     }
 
     /// Lengths of cells, triples, points, work.
-    fn needs(&self) -> [usize; 4] {
+    pub fn needs(&self) -> [usize; 4] {
         match &*self.found {
             Ok(grid) => [
                 grid.cells.len(),
@@ -41,7 +42,7 @@ impl Asked {
         }
     }
 
-    fn call(&self, random: &mut Random, room: [usize; 4]) -> GridCall {
+    pub fn call(&self, random: &mut Random, room: [usize; 4]) -> GridCall {
         GridCall {
             plan: self.plan.clone(),
             split: Lent::new(&self.split),
@@ -72,10 +73,28 @@ impl Asked {
     }
 }
 
+/// Makes a leaf of an octant whose children are leaves: the table stays an octree, and what touches
+/// the new leaf, perhaps by a corner alone, may now be too fine.
+fn cleared(random: &mut Random, layout: &Layout, mut split: Vec<u8>) -> Vec<u8> {
+    let is_split = |level: u32, c: [i32; 3]| level > 0 && split[layout.place(level, c)] == 1;
+    let over_leaves = |(level, c): (u32, [i32; 3])| {
+        let child = |n: i32| std::array::from_fn(|k| 2 * c[k] + (n >> k & 1));
+        is_split(level, c) && !(0..8).any(|n| is_split(level - 1, child(n)))
+    };
+    let places: Vec<usize> = (layout.octants().enumerate())
+        .filter(|(_, (level, c))| *level > 1 && over_leaves((*level, *c)))
+        .map(|(place, _)| place)
+        .collect();
+    if !places.is_empty() {
+        split[random.pick(&places)] = 0;
+    }
+    split
+}
+
 /// A graded table, sometimes with a byte turned or of a wrong kind, or a table of the wrong length.
-fn table(random: &mut Random, plan: &PlanCall, crossing: &[u8]) -> Vec<u8> {
+pub fn table(random: &mut Random, plan: &PlanCall, layout: &Layout, crossing: &[u8]) -> Vec<u8> {
     let mut split = split_table(&plan.bounds, plan.c, plan.levels, crossing);
-    match random.below(12) {
+    match random.below(14) {
         0 => {
             let len = lengths(random, [split.len()])[0];
             resized(&split, len, 0)
@@ -91,15 +110,17 @@ fn table(random: &mut Random, plan: &PlanCall, crossing: &[u8]) -> Vec<u8> {
             split
         }
         4 => crossing.to_vec(),
+        5..=7 => cleared(random, layout, split),
         _ => split,
     }
 }
 
 fn octree(random: &mut Random, report: &mut Report) {
     let levels = boxes::octree_levels(random);
-    let (plan, layout) = boxes::small(random, levels);
-    let crossing = crossings::crossing(random, &layout.layout);
-    let asked = Asked::new(&plan, table(random, &plan, &crossing));
+    let (plan, found) = boxes::small(random, levels);
+    let layout = found.layout;
+    let crossing = crossings::crossing(random, &layout);
+    let asked = Asked::new(&plan, table(random, &plan, &layout, &crossing));
     if levels <= 2 && random.once_in(3) {
         asked.each_short(random, report);
     }
@@ -165,8 +186,29 @@ fn at_bounds(random: &mut Random, sizes: &Sizes, report: &mut Report) {
     }
 }
 
+/// The worked refinement of nine octants, whole, and with each of the nine cleared in turn: seven
+/// touch the finest leaves, one of them by a corner alone.
+fn one_missing(random: &mut Random, report: &mut Report) {
+    let plan = cuboid([0.0; 3], 2);
+    let layout = Layout {
+        levels: 2,
+        dims: [6; 3],
+    };
+    let mut crossing = vec![0; layout.len()];
+    crossing[layout.place(2, [2, 2, 2])] = 1;
+    crossing[layout.place(1, [4, 4, 4])] = 1;
+    let split = split_table(&plan.bounds, plan.c, 2, &crossing);
+    Asked::new(&plan, split.clone()).each_short(random, report);
+    for at in (0..split.len()).filter(|at| split[*at] == 1) {
+        let mut missing = split.clone();
+        missing[at] = 0;
+        Asked::new(&plan, missing).with_rooms(random, 1, report);
+    }
+}
+
 pub fn run(random: &mut Random, sizes: &Sizes, report: &mut Report) {
     at_bounds(random, sizes, report);
+    one_missing(random, report);
     for _ in 0..sizes.grids {
         octree(random, report);
         lattice(random, report);

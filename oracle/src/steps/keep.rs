@@ -67,7 +67,7 @@ fn set<T: Copy>(random: &mut Random, table: &mut [T], to: &[T]) {
     }
 }
 
-fn representatives(random: &mut Random, report: &mut Report) {
+pub fn representatives(random: &mut Random) -> RepresentativesCall {
     let mut asked = asked(random);
     let mesh = asked.sample.mesh();
     let list = representatives_of(mesh, &asked.crossing).len();
@@ -76,17 +76,17 @@ fn representatives(random: &mut Random, report: &mut Report) {
     let (points, cells) = asked.lens();
     let given = asked.crossing.len();
     let room = lengths(random, [points, cells, given, list, 3 * list, need]);
-    let call = RepresentativesCall {
+    RepresentativesCall {
         input: asked.input(room[0], room[1]),
         crossing: Lent::new(&resized(&asked.crossing, room[2], 0)),
         numbers: Lent::new(&random.dirt(room[3])),
         centroids: Lent::new(&random.dirt(room[4])),
         work: Lent::new(&random.dirt(room[5])),
-    };
-    compare(&call, report);
+    }
 }
 
-fn keep(random: &mut Random, cover: bool, report: &mut Report) {
+/// Cover or Crust.
+pub fn keep(random: &mut Random, cover: bool) -> KeepCall {
     let mut asked = asked(random);
     let mesh = asked.sample.mesh();
     let probe = cover.then_some(&asked.probe[..]);
@@ -100,7 +100,7 @@ fn keep(random: &mut Random, cover: bool, report: &mut Report) {
         random,
         [points, cells, given, given, kept_points, kept_cells, need],
     );
-    let call = KeepCall {
+    KeepCall {
         c: asked.sample.c,
         input: asked.input(room[0], room[1]),
         crossing: Lent::new(&resized(&asked.crossing, room[2], 0)),
@@ -108,51 +108,58 @@ fn keep(random: &mut Random, cover: bool, report: &mut Report) {
         kept_points: Lent::new(&random.dirt(room[4])),
         kept_cells: Lent::new(&random.dirt(room[5])),
         work: Lent::new(&random.dirt(room[6])),
-    };
-    compare(&call, report);
+    }
 }
 
-fn components(random: &mut Random, report: &mut Report) {
+pub fn components(random: &mut Random) -> ComponentsCall {
     let mut asked = asked(random);
     asked.spoil(random);
     let (points, cells) = asked.lens();
     let room = lengths(random, [points, cells, cells / 4, 2 * (points / 3)]);
-    let call = ComponentsCall {
+    ComponentsCall {
         input: asked.input(room[0], room[1]),
         numbers: Lent::new(&random.dirt(room[2])),
         work: Lent::new(&random.dirt(room[3])),
-    };
-    compare(&call, report);
+    }
 }
 
-fn one_piece(random: &mut Random, report: &mut Report) {
+pub fn one_piece(random: &mut Random) -> OnePieceCall {
     let mut asked = asked(random);
     asked.spoil(random);
     let (points, cells) = asked.lens();
     let room = lengths(random, [points, cells, 2 * (points / 3)]);
-    let call = OnePieceCall {
+    OnePieceCall {
         input: asked.input(room[0], room[1]),
         work: Lent::new(&random.dirt(room[2])),
-    };
-    compare(&call, report);
+    }
 }
 
 pub fn run_representatives(random: &mut Random, sizes: &Sizes, report: &mut Report) {
-    (0..sizes.meshes).for_each(|_| representatives(random, report));
+    for _ in 0..sizes.meshes {
+        compare(&representatives(random), report);
+    }
 }
 
 pub fn run_cover(random: &mut Random, sizes: &Sizes, report: &mut Report) {
-    (0..sizes.meshes).for_each(|_| keep(random, true, report));
+    for _ in 0..sizes.meshes {
+        compare(&keep(random, true), report);
+    }
 }
 
 pub fn run_crust(random: &mut Random, sizes: &Sizes, report: &mut Report) {
-    (0..sizes.meshes).for_each(|_| keep(random, false, report));
+    for _ in 0..sizes.meshes {
+        compare(&keep(random, false), report);
+    }
 }
 
 pub fn run_components(random: &mut Random, sizes: &Sizes, report: &mut Report) {
-    (0..sizes.meshes).for_each(|_| components(random, report));
+    for _ in 0..sizes.meshes {
+        compare(&components(random), report);
+    }
 }
 
 pub fn run_one_piece(random: &mut Random, sizes: &Sizes, report: &mut Report) {
-    (0..sizes.meshes).for_each(|_| one_piece(random, report));
+    for _ in 0..sizes.meshes {
+        compare(&one_piece(random), report);
+    }
 }

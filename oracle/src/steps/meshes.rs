@@ -104,8 +104,10 @@ fn on_the_edge(random: &mut Random, sample: &Sample) -> f32 {
             false => dropped = middle,
         }
     }
-    let volume = f64::from(f32::from_bits(kept));
-    nudged((volume * 1.0e6).cbrt() as f32, random.between(-1, 1))
+    match f64::from(f32::from_bits(kept)) {
+        0.0 => sample.c,
+        volume => nudged((volume * 1.0e6).cbrt() as f32, random.between(-1, 1)),
+    }
 }
 
 fn cell_size(random: &mut Random, sample: &Sample) -> f32 {

@@ -3,14 +3,14 @@
 pub mod boxes;
 mod crossings;
 mod damage;
-mod files;
-mod grid;
+pub mod files;
+pub mod grid;
 mod huge;
-mod keep;
+pub mod keep;
 pub mod meshes;
 mod plan;
-mod refine;
-mod rooms;
+pub mod refine;
+pub mod rooms;
 mod vtk_headers;
 pub mod worked;
 

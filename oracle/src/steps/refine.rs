@@ -16,6 +16,17 @@ fn call(random: &mut Random, plan: &PlanCall, crossing: &[u8], split_len: usize)
     }
 }
 
+/// A call with the lengths of its tables or an answer perhaps wrong.
+pub fn perhaps_wrong(random: &mut Random, plan: &PlanCall, crossing: &[u8]) -> RefineCall {
+    let octants = crossing.len();
+    let [given, room] = lengths(random, [octants, octants]);
+    let mut wrong = resized(crossing, given, 0);
+    if given > 0 && random.once_in(3) {
+        wrong[random.below(given)] = random.pick(&[2, 3, 128, 255]);
+    }
+    call(random, plan, &wrong, room)
+}
+
 /// One answered call, then calls with the same answers and something wrong.
 fn with_faults(random: &mut Random, plan: &PlanCall, crossing: &[u8], report: &mut Report) {
     let octants = crossing.len();
@@ -25,23 +36,19 @@ fn with_faults(random: &mut Random, plan: &PlanCall, crossing: &[u8], report: &m
         compare(&call(random, plan, crossing, octants - 1), report);
     }
     for _ in 0..3 {
-        let [given, room] = lengths(random, [octants, octants]);
-        let mut wrong = resized(crossing, given, 0);
-        if given > 0 && random.once_in(3) {
-            wrong[random.below(given)] = random.pick(&[2, 3, 128, 255]);
-        }
-        if given != octants || room < octants || wrong.iter().any(|byte| *byte > 1) {
-            compare(&call(random, plan, &wrong, room), report);
+        let wrong = perhaps_wrong(random, plan, crossing);
+        if wrong.crossing.all() != crossing || wrong.split.len() < octants {
+            compare(&wrong, report);
         }
     }
 }
 
 /// A plan that is refused, whatever the tables.
-fn refused(random: &mut Random, report: &mut Report) {
+pub fn refused(random: &mut Random) -> RefineCall {
     let plan = boxes::refused(random);
     let (given, room) = (random.below(9), random.below(9));
     let crossing = random.dirt_bytes(given);
-    compare(&call(random, &plan, &crossing, room), report);
+    call(random, &plan, &crossing, room)
 }
 
 /// 64 roots along an axis, and the most octants a box can have.
@@ -85,6 +92,6 @@ pub fn run(random: &mut Random, sizes: &Sizes, report: &mut Report) {
 
         let (lattice, _) = boxes::small(random, 0);
         with_faults(random, &lattice, &[], report);
-        refused(random, report);
+        compare(&refused(random), report);
     }
 }

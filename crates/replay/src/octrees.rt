@@ -1,0 +1,37 @@
+// Plan, refine and grid.
+use crate::show;
+use crate::tape;
+use plan::Bounds;
+
+fn float(tape: &[u8], at: usize) -> f32 {
+    float32::to_f32(tape::word(tape, at))
+}
+
+// The box at a place of the tape: six words.
+fn bounds(tape: &[u8], at: usize) -> Bounds {
+    Bounds {
+        x0: float(tape, at),
+        y0: float(tape, tape::on(at, 1)),
+        z0: float(tape, tape::on(at, 2)),
+        x1: float(tape, tape::on(at, 3)),
+        y1: float(tape, tape::on(at, 4)),
+        z1: float(tape, tape::on(at, 5)),
+    }
+}
+
+pub fn plan(tape: &[u8], at: usize) -> usize {
+    let c = float(tape, tape::on(at, 6));
+    let levels = tape::word(tape, tape::on(at, 7));
+    let a = sporeferry::sf_plan(bounds(tape, at), c, levels);
+    show::word(a.number);
+    show::pattern(a.ox);
+    show::pattern(a.oy);
+    show::pattern(a.oz);
+    show::pattern(a.half);
+    show::word(a.nx);
+    show::word(a.ny);
+    show::word(a.nz);
+    show::word(a.octants);
+    show::end();
+    tape::on(at, 8)
+}

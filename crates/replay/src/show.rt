@@ -1,0 +1,37 @@
+// Answers and tables as lines of text.
+use libc::STDOUT_FILENO;
+use sporeferry::Answer;
+
+pub fn number(n: u64) {
+    io::print_decimal(STDOUT_FILENO, n);
+    io::write_all(STDOUT_FILENO, b" ");
+}
+
+pub fn word(x: u32) {
+    number(x as u64);
+}
+
+pub fn pattern(x: f32) {
+    word(float32::from_f32(x));
+}
+
+pub fn end() {
+    io::write_all(STDOUT_FILENO, b"\n");
+}
+
+pub fn answer(a: Answer) {
+    word(a.number);
+    number(a.first);
+    number(a.second);
+    number(a.third);
+    end();
+}
+
+pub fn table(entries: &[u32]) {
+    let mut i: usize = 0;
+    while i < entries.len() {
+        word(entries[i]);
+        i += 1;
+    }
+    end();
+}

@@ -1,0 +1,46 @@
+// The tape: words of four bytes, the low byte first. Past its end every word is 0.
+ghost use Prim.Native.Nat.{_≤_};
+
+// A table of the greatest length, filled with what lent tables hold before a call.
+pub fn filled() -> [u32; 16_384] {
+    [0xA5A5_A5A5u32; 16_384]
+}
+
+// The word at a place, counted in words.
+pub fn word(tape: &[u8], at: usize) -> u32 {
+    if at < tape.len() / 4 {
+        return words::word(tape, at * 4, false);
+    }
+    0
+}
+
+// The place n words further on, within the longest tape.
+pub fn on(at: usize, n: usize) -> usize {
+    if at < 1_000_000 {
+        if n < 1_000_000 {
+            return at + n;
+        }
+    }
+    at
+}
+
+// The length of a table, from the tape.
+pub fn length(tape: &[u8], at: usize, most: usize) -> usize
+    ensures { λ r. ⌜ r ≤ most ⌝ }
+{
+    let n = lists::wide(word(tape, at));
+    if n <= most {
+        return n;
+    }
+    most
+}
+
+// Fills a table from the tape, and answers the place after it.
+pub fn fill(tape: &[u8], at: usize, table: &mut [u32]) -> usize {
+    let mut i: usize = 0;
+    while i < table.len() {
+        table[i] = word(tape, on(at, i));
+        i += 1;
+    }
+    on(at, i)
+}

@@ -1,0 +1,33 @@
+//! `sample`: writes a fixed sample of calls and of the Rust's answers for crates/replay, which
+//! replays them with no Rust at hand. Its stdin is the calls, its stdout what must be printed.
+
+mod choose;
+mod record;
+mod tape;
+
+use std::path::Path;
+use std::process::ExitCode;
+
+const SEED: u64 = 2026;
+
+fn write(directory: &Path) -> std::io::Result<()> {
+    let tape = choose::all(SEED);
+    std::fs::write(directory.join("stdin"), tape.bytes())?;
+    std::fs::write(directory.join("stdout"), tape.text())?;
+    println!("{tape}");
+    Ok(())
+}
+
+fn main() -> ExitCode {
+    let Some(directory) = std::env::args().nth(1) else {
+        eprintln!("usage: sample DIRECTORY");
+        return ExitCode::from(2);
+    };
+    match write(Path::new(&directory)) {
+        Ok(()) => ExitCode::SUCCESS,
+        Err(error) => {
+            eprintln!("{directory}: {error}");
+            ExitCode::FAILURE
+        }
+    }
+}

@@ -1,0 +1,402 @@
+//! How each call stands on the tape: lengths of its tables, its values, the contents of its inputs;
+//! and what its replay prints: the answer, then each table that was lent to be written.
+
+use crate::tape::spaced;
+use oracle::calls::Format;
+use oracle::calls::{
+    Call, ComponentsCall, GridCall, KeepCall, OnePieceCall, PlanCall, ReadCall, RefineCall,
+    RepresentativesCall, WriteCall,
+};
+use oracle::lent::{Entry, Lent};
+use oracle::library::{Answer, Planned};
+
+/// A table that the program fills with this byte before the call.
+const FILL: u8 = 0xa5;
+
+trait Filled: Entry + Into<u64> {
+    const FILLED: Self;
+}
+
+impl Filled for u8 {
+    const FILLED: u8 = FILL;
+}
+
+impl Filled for u32 {
+    const FILLED: u32 = u32::from_ne_bytes([FILL; 4]);
+}
+
+impl Filled for u64 {
+    const FILLED: u64 = u64::from_ne_bytes([FILL; 8]);
+}
+
+fn refill<T: Filled>(table: &mut Lent<T>) {
+    table.all_mut().fill(T::FILLED);
+}
+
+fn numbers<T: Filled>(table: &Lent<T>) -> Vec<u64> {
+    table.all().iter().map(|entry| (*entry).into()).collect()
+}
+
+fn bytes_as_words(table: &Lent<u8>) -> impl Iterator<Item = u32> + '_ {
+    table.all().iter().map(|byte| u32::from(*byte))
+}
+
+pub trait Record: Call {
+    /// The step's number on the tape.
+    const CODE: u32;
+
+    fn lengths(&self) -> Vec<usize>;
+
+    /// The call with every table that may be written filled as the program fills it.
+    fn filled(&self) -> Self;
+
+    /// The values and the contents of the inputs.
+    fn words(&self) -> Vec<u32>;
+
+    /// The tables that the program prints after the call.
+    fn tables(&self) -> Vec<Vec<u64>>;
+
+    fn line(outcome: &Self::Outcome) -> String;
+}
+
+fn answer_line(answer: &Answer) -> String {
+    spaced(&[
+        answer.number.into(),
+        answer.first,
+        answer.second,
+        answer.third,
+    ])
+}
+
+fn plan_words(plan: &PlanCall) -> Vec<u32> {
+    let bounds = plan.bounds.min.iter().chain(&plan.bounds.max);
+    let floats = bounds.chain([&plan.c]).map(|x| x.to_bits());
+    floats.chain([plan.levels]).collect()
+}
+
+impl Record for PlanCall {
+    const CODE: u32 = 0;
+
+    fn lengths(&self) -> Vec<usize> {
+        Vec::new()
+    }
+
+    fn filled(&self) -> Self {
+        self.clone()
+    }
+
+    fn words(&self) -> Vec<u32> {
+        plan_words(self)
+    }
+
+    fn tables(&self) -> Vec<Vec<u64>> {
+        Vec::new()
+    }
+
+    fn line(planned: &Planned) -> String {
+        let floats = planned
+            .origin
+            .iter()
+            .chain([&planned.half])
+            .map(|x| x.to_bits());
+        let whole = planned.dims.into_iter().chain([planned.octants]);
+        let numbers: Vec<u64> = [planned.number]
+            .into_iter()
+            .chain(floats)
+            .chain(whole)
+            .map(u64::from)
+            .collect();
+        spaced(&numbers)
+    }
+}
+
+impl Record for ComponentsCall {
+    const CODE: u32 = 1;
+
+    fn lengths(&self) -> Vec<usize> {
+        let input = &self.input;
+        vec![
+            input.points.len(),
+            input.cells.len(),
+            self.numbers.len(),
+            self.work.len(),
+        ]
+    }
+
+    fn filled(&self) -> Self {
+        let mut call = self.clone();
+        refill(&mut call.numbers);
+        refill(&mut call.work);
+        call
+    }
+
+    fn words(&self) -> Vec<u32> {
+        [self.input.points.all(), self.input.cells.all()].concat()
+    }
+
+    fn tables(&self) -> Vec<Vec<u64>> {
+        vec![numbers(&self.numbers), numbers(&self.work)]
+    }
+
+    fn line(answer: &Answer) -> String {
+        answer_line(answer)
+    }
+}
+
+impl Record for OnePieceCall {
+    const CODE: u32 = 2;
+
+    fn lengths(&self) -> Vec<usize> {
+        vec![
+            self.input.points.len(),
+            self.input.cells.len(),
+            self.work.len(),
+        ]
+    }
+
+    fn filled(&self) -> Self {
+        let mut call = self.clone();
+        refill(&mut call.work);
+        call
+    }
+
+    fn words(&self) -> Vec<u32> {
+        [self.input.points.all(), self.input.cells.all()].concat()
+    }
+
+    fn tables(&self) -> Vec<Vec<u64>> {
+        vec![numbers(&self.work)]
+    }
+
+    fn line(answer: &Answer) -> String {
+        answer_line(answer)
+    }
+}
+
+impl Record for RefineCall {
+    const CODE: u32 = 3;
+
+    fn lengths(&self) -> Vec<usize> {
+        vec![self.crossing.len(), self.split.len()]
+    }
+
+    fn filled(&self) -> Self {
+        let mut call = self.clone();
+        refill(&mut call.split);
+        call
+    }
+
+    fn words(&self) -> Vec<u32> {
+        let plan = plan_words(&self.plan);
+        plan.into_iter()
+            .chain(bytes_as_words(&self.crossing))
+            .collect()
+    }
+
+    fn tables(&self) -> Vec<Vec<u64>> {
+        vec![numbers(&self.split)]
+    }
+
+    fn line(answer: &Answer) -> String {
+        answer_line(answer)
+    }
+}
+
+impl Record for GridCall {
+    const CODE: u32 = 4;
+
+    fn lengths(&self) -> Vec<usize> {
+        let room = [
+            self.cells.len(),
+            self.triples.len(),
+            self.points.len(),
+            self.work.len(),
+        ];
+        [vec![self.split.len()], room.to_vec()].concat()
+    }
+
+    fn filled(&self) -> Self {
+        let mut call = self.clone();
+        refill(&mut call.cells);
+        refill(&mut call.triples);
+        refill(&mut call.points);
+        refill(&mut call.work);
+        call
+    }
+
+    fn words(&self) -> Vec<u32> {
+        let plan = plan_words(&self.plan);
+        plan.into_iter()
+            .chain(bytes_as_words(&self.split))
+            .collect()
+    }
+
+    fn tables(&self) -> Vec<Vec<u64>> {
+        let results = [&self.cells, &self.triples, &self.points].map(numbers);
+        [results.to_vec(), vec![numbers(&self.work)]].concat()
+    }
+
+    fn line(answer: &Answer) -> String {
+        answer_line(answer)
+    }
+}
+
+impl Record for RepresentativesCall {
+    const CODE: u32 = 5;
+
+    fn lengths(&self) -> Vec<usize> {
+        let inputs = [
+            self.input.points.len(),
+            self.input.cells.len(),
+            self.crossing.len(),
+        ];
+        let room = [self.numbers.len(), self.centroids.len(), self.work.len()];
+        [inputs, room].concat()
+    }
+
+    fn filled(&self) -> Self {
+        let mut call = self.clone();
+        refill(&mut call.numbers);
+        refill(&mut call.centroids);
+        refill(&mut call.work);
+        call
+    }
+
+    fn words(&self) -> Vec<u32> {
+        let mesh = [self.input.points.all(), self.input.cells.all()].concat();
+        mesh.into_iter()
+            .chain(bytes_as_words(&self.crossing))
+            .collect()
+    }
+
+    fn tables(&self) -> Vec<Vec<u64>> {
+        [&self.numbers, &self.centroids, &self.work]
+            .map(numbers)
+            .to_vec()
+    }
+
+    fn line(answer: &Answer) -> String {
+        answer_line(answer)
+    }
+}
+
+impl Record for KeepCall {
+    /// Both: a probe table stands on the tape for Crust too, with no entries.
+    const CODE: u32 = 6;
+
+    /// The first is 1 for Cover.
+    fn lengths(&self) -> Vec<usize> {
+        let probe = self.probe.as_ref();
+        let inputs = [
+            self.input.points.len(),
+            self.input.cells.len(),
+            self.crossing.len(),
+        ];
+        let room = [
+            self.kept_points.len(),
+            self.kept_cells.len(),
+            self.work.len(),
+        ];
+        let own = vec![probe.is_some().into(), probe.map_or(0, |table| table.len())];
+        [own, inputs.to_vec(), room.to_vec()].concat()
+    }
+
+    fn filled(&self) -> Self {
+        let mut call = self.clone();
+        refill(&mut call.kept_points);
+        refill(&mut call.kept_cells);
+        refill(&mut call.work);
+        call
+    }
+
+    fn words(&self) -> Vec<u32> {
+        let mut words = vec![self.c.to_bits()];
+        words.extend(self.input.points.all());
+        words.extend(self.input.cells.all());
+        words.extend(bytes_as_words(&self.crossing));
+        words.extend(self.probe.iter().flat_map(bytes_as_words));
+        words
+    }
+
+    fn tables(&self) -> Vec<Vec<u64>> {
+        [&self.kept_points, &self.kept_cells, &self.work]
+            .map(numbers)
+            .to_vec()
+    }
+
+    fn line(answer: &Answer) -> String {
+        answer_line(answer)
+    }
+}
+
+fn of_format(format: Format) -> usize {
+    match format {
+        Format::Mesh => 0,
+        Format::Vtk => 1,
+    }
+}
+
+impl Record for WriteCall {
+    const CODE: u32 = 7;
+
+    /// The first is 0 for a mesh file, 1 for VTK.
+    fn lengths(&self) -> Vec<usize> {
+        let inputs = [
+            of_format(self.format),
+            self.input.points.len(),
+            self.input.cells.len(),
+        ];
+        [inputs.to_vec(), vec![self.file.len(), self.work.len()]].concat()
+    }
+
+    fn filled(&self) -> Self {
+        let mut call = self.clone();
+        refill(&mut call.file);
+        refill(&mut call.work);
+        call
+    }
+
+    fn words(&self) -> Vec<u32> {
+        [self.input.points.all(), self.input.cells.all()].concat()
+    }
+
+    fn tables(&self) -> Vec<Vec<u64>> {
+        vec![numbers(&self.file), numbers(&self.work)]
+    }
+
+    fn line(answer: &Answer) -> String {
+        answer_line(answer)
+    }
+}
+
+impl Record for ReadCall {
+    const CODE: u32 = 8;
+
+    /// The first is 0 for a mesh file, 1 for VTK.
+    fn lengths(&self) -> Vec<usize> {
+        let room = [self.points.len(), self.cells.len(), self.work.len()];
+        [vec![of_format(self.format), self.file.len()], room.to_vec()].concat()
+    }
+
+    fn filled(&self) -> Self {
+        let mut call = self.clone();
+        refill(&mut call.points);
+        refill(&mut call.cells);
+        refill(&mut call.work);
+        call
+    }
+
+    fn words(&self) -> Vec<u32> {
+        bytes_as_words(&self.file).collect()
+    }
+
+    fn tables(&self) -> Vec<Vec<u64>> {
+        [&self.points, &self.cells, &self.work]
+            .map(numbers)
+            .to_vec()
+    }
+
+    fn line(answer: &Answer) -> String {
+        answer_line(answer)
+    }
+}
