@@ -1,0 +1,126 @@
+-- The tables of the lattice, row by row. Assumes nothing.
+use mathlib.Core.Path.{_≡_, refl, sym, ap, ap₂, _∙_, fun-ext}
+use mathlib.Core.Bool.{Bool, true, false, cond, _&&_}
+use mathlib.Core.List.{List, [], _∷_, _++_, append-assoc}
+use Prim.Native.Nat.{ℕ, _+_, _*_, _-_, _/_, _≤_, _<_}
+use native.Mathlib.Nat.{mul-le-mul}
+use native.Mathlib.Omega.{arith}
+use lib.Dec.{ltb}
+use lib.ListN.{length}
+use Rattle.lists.specs.Runs.{run, Splits}
+use Rattle.lists.proofs.Running.{run-same, run-map}
+use Rattle.octants.specs.Oct.{Axis, ax, ay, az, Pos, pos}
+use Rattle.cells.specs.Cells.{Cell, next, flat}
+use Rattle.plan.specs.declared.Plan.{Plan}
+use Rattle.lattice.specs.Lattice.{evens, odds, size, boxUp, doubled, slot, step, indexOf, axisCells, centreCells, latticeCells, latticeVertices, latticeTable, octaNumbers, spread}
+use Rattle.lattice.specs.Storing.{numbersAt, rowNumbers, cellsAt, rowCells, layerCells, allCells, rowOf, layerOf, boxOf, verticesOf, dimsOf}
+use Rattle.lattice.proofs.Octahedra.{there, axis-numbers}
+
+-- ---- the cells
+
+flat-append : (f : Pos → ℕ) (a b : List Cell) → flat f (a ++ b) ≡ flat f a ++ flat f b
+unfolding flat
+flat-append f [] b = refl
+flat-append f (c ∷ a) b = ap (λ (t : List ℕ). f (c .c0) ∷ f (c .c1) ∷ f (c .c2) ∷ f (c .c3) ∷ t) (flat-append f a b)
+
+flat-none : (f : Pos → ℕ) → flat f [] ≡ []
+unfolding flat
+flat-none f = refl
+
+octa-same : {t t′ : Bool} {c c′ o o′ low low′ u u′ v v′ : ℕ} → t ≡ t′ → c ≡ c′ → o ≡ o′ → low ≡ low′ → u ≡ u′ → v ≡ v′
+    → octaNumbers t c o low u v ≡ octaNumbers t′ c′ o′ low′ u′ v′
+octa-same et ec eo el eu ev = rw (et, ec, eo, el, eu, ev) refl
+
+-- the tests in the order of the code
+turn-x : (s t r : Bool) → s && (t && r) ≡ (t && r) && s
+turn-x true true true = refl
+turn-x true true false = refl
+turn-x true false r = refl
+turn-x false true true = refl
+turn-x false true false = refl
+turn-x false false r = refl
+
+turn-y : (s t r : Bool) → s && (t && r) ≡ (s && t) && r
+turn-y true t r = refl
+turn-y false t r = refl
+
+turn-z : (s t r : Bool) → s && (t && r) ≡ (s && r) && t
+turn-z true true true = refl
+turn-z true true false = refl
+turn-z true false true = refl
+turn-z true false false = refl
+turn-z false t r = refl
+
+module _ (nx ny nz j k : ℕ) (hj : j < (ny + 1) / 2) (hk : k < (nz + 1) / 2) (tx ty tz : Bool) (centre low line layer deep : ℕ)
+    (ex : tx ≡ (ltb j (ny / 2) && ltb k (nz / 2))) (ey : ty ≡ (ltb (j + 1) ((ny + 1) / 2) && ltb k (nz / 2))) (ez : tz ≡ (ltb (k + 1) ((nz + 1) / 2) && ltb j (ny / 2)))
+    (ec : centre ≡ (nx / 2 + 1) * (ny / 2 + 1) * (nz / 2 + 1) + (j + k * ((ny + 1) / 2)) * ((nx + 1) / 2))
+    (el : low ≡ (j + k * (ny / 2 + 1)) * (nx / 2 + 1)) (en : line ≡ nx / 2 + 1) (ea : layer ≡ (ny / 2 + 1) * (nx / 2 + 1)) (ed : deep ≡ (ny + 1) / 2 * ((nx + 1) / 2)) where
+  abbrev d : Pos
+  d = pos nx ny nz
+
+  centre-is : (i : ℕ) → i < (nx + 1) / 2 → cellsAt (pos nx ny nz) k j i ≡ numbersAt ((nx + 1) / 2) (nx / 2) tx ty tz centre low line layer deep i
+  unfolding centreCells numbersAt
+  centre-is i hi =
+      simp flat-append
+      (ap₂ (λ (a b : List ℕ). a ++ b)
+      (ap₂ (λ (a b : List ℕ). a ++ b)
+      (axis-numbers d (pos i j k) inside ax
+      ∙ octa-same (turn-x (ltb (i + 1) ((nx + 1) / 2)) (ltb j (ny / 2)) (ltb k (nz / 2)) ∙ ap (λ (t : Bool). t && ltb (i + 1) ((nx + 1) / 2)) (sym ex)) (omega arith) (omega arith) (omega arith) (omega arith) (omega arith))
+      (axis-numbers d (pos i j k) inside ay
+      ∙ octa-same (turn-y (ltb (j + 1) ((ny + 1) / 2)) (ltb k (nz / 2)) (ltb i (nx / 2)) ∙ ap (λ (t : Bool). t && ltb i (nx / 2)) (sym ey)) (omega arith) (omega arith) (omega arith) (omega arith) refl))
+      (axis-numbers d (pos i j k) inside az
+      ∙ octa-same (turn-z (ltb (k + 1) ((nz + 1) / 2)) (ltb i (nx / 2)) (ltb j (ny / 2)) ∙ ap (λ (t : Bool). t && ltb i (nx / 2)) (sym ez)) (omega arith) (omega arith) (omega arith) refl (omega arith)))
+    where
+      inside : (a : Axis) → pos i j k a < odds (pos nx ny nz) a
+      inside ax = hi
+      inside ay = hj
+      inside az = hk
+
+  pub row-is : rowCells (pos nx ny nz) k j ≡ rowNumbers ((nx + 1) / 2) (nx / 2) tx ty tz centre low line layer deep
+  row-is = run-same ((nx + 1) / 2) (cellsAt (pos nx ny nz) k j) _ 0 (λ i a b. centre-is i (omega arith))
+
+-- all cells, row by row
+pub all-cells : (d : Pos) → latticeTable d ≡ allCells d
+unfolding latticeCells boxUp
+all-cells d =
+    let f = indexOf d in
+    run-map (flat f) (flat-none f) (flat-append f) (odds d az) _ 0
+    ∙ ap (λ (g : ℕ → List ℕ). run (odds d az) g 0)
+    (fun-ext (λ k. run-map (flat f) (flat-none f) (flat-append f) (odds d ay) _ 0
+    ∙ ap (λ (g : ℕ → List ℕ). run (odds d ay) g 0) (fun-ext (λ j. run-map (flat f) (flat-none f) (flat-append f) (odds d ax) _ 0))))
+
+-- ---- the vertices
+
+spread-append : (g : Axis → ℕ → ℕ) (a b : List Pos) → spread g (a ++ b) ≡ spread g a ++ spread g b
+unfolding spread
+spread-append g [] b = refl
+spread-append g (p ∷ a) b = ap (λ (t : List ℕ). g ax (p ax) ∷ g ay (p ay) ∷ g az (p az) ∷ t) (spread-append g a b)
+
+spread-none : (g : Axis → ℕ → ℕ) → spread g [] ≡ []
+unfolding spread
+spread-none g = refl
+
+spread-box : (g : Axis → ℕ → ℕ) (e : ℕ) (n : Pos) → spread g (boxUp n (λ x. doubled e x ∷ [])) ≡ boxOf g e (n ax) (n ay) (n az)
+unfolding boxUp spread
+spread-box g e n =
+    run-map (spread g) (spread-none g) (spread-append g) (n az) _ 0
+    ∙ ap (λ (h : ℕ → List ℕ). run (n az) h 0)
+    (fun-ext (λ k. run-map (spread g) (spread-none g) (spread-append g) (n ay) _ 0
+    ∙ ap (λ (h : ℕ → List ℕ). run (n ay) h 0) (fun-ext (λ j. run-map (spread g) (spread-none g) (spread-append g) (n ax) _ 0))))
+
+-- even ones first, then odd ones
+pub vertices-split : (g : Axis → ℕ → ℕ) (p : Plan)
+    → Splits (verticesOf g p) (boxOf g 0 (p .nx / 2 + 1) (p .ny / 2 + 1) (p .nz / 2 + 1)) (boxOf g 1 ((p .nx + 1) / 2) ((p .ny + 1) / 2) ((p .nz + 1) / 2))
+unfolding latticeVertices
+vertices-split g p = record {
+  whole =
+      spread-append g (boxUp (evens (dimsOf p)) (λ x. doubled 0 x ∷ [])) (boxUp (odds (dimsOf p)) (λ x. doubled 1 x ∷ []))
+      ∙ ap₂ (λ (a b : List ℕ). a ++ b) (spread-box g 0 (evens (dimsOf p))) (spread-box g 1 (odds (dimsOf p)));
+}
+
+-- a place in a box is small
+pub small-slot : (j k n m : ℕ) → j ≤ 65 → k ≤ 65 → n ≤ 65 → m ≤ 65 → (k * n ≤ 4225) × ((j + k * n) * m ≤ 278850)
+small-slot j k n m hj hk hn hm =
+    let a : k * n ≤ 4225 = mul-le-mul hk hn in
+    let b : j + k * n ≤ 4290 = omega arith in
+    (a, mul-le-mul b hm)

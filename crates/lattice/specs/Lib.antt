@@ -1,0 +1,4 @@
+-- The definitions that the contracts of lattice cite.
+pub mod Lattice
+pub mod Storing
+pub mod Worked
