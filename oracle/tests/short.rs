@@ -3,10 +3,25 @@
 use oracle::steps::{self, Sizes};
 
 /// The steps that the library has, with the refusals that a run must meet.
-const LANDED: [(&str, &[(&str, &[u32])]); 3] = [
+const LANDED: [(&str, &[(&str, &[u32])]); 5] = [
     ("plan", &[("plan", &[0, 1, 2, 3, 4])]),
     ("components", &[("components", &[0, 5, 8, 9])]),
     ("one_piece", &[("one_piece", &[0, 5, 8])]),
+    (
+        "mesh_file",
+        &[
+            ("write_mesh", &[0, 5, 8, 9]),
+            ("read_mesh", &[0, 8, 9, 11, 12, 13]),
+        ],
+    ),
+    (
+        "huge",
+        &[
+            ("components", &[4]),
+            ("write_mesh", &[4]),
+            ("read_mesh", &[4]),
+        ],
+    ),
 ];
 
 #[test]

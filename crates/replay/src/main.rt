@@ -1,6 +1,7 @@
 // Replays a fixed sample of calls whose answers the lifted Rust gave: stdin holds the calls, stdout the Rust's answers. Both are made by
 // `oracle/sample`. A call is its step's number, the lengths of its tables, its values and the contents of its inputs; every other
 // table is lent filled with tape::FILL.
+mod files;
 mod meshes;
 mod octrees;
 mod show;
@@ -22,7 +23,13 @@ fn replay(tape: &[u8], at: usize) -> usize {
     if step == 1 {
         return meshes::components(tape, start);
     }
-    meshes::one_piece(tape, start)
+    if step == 2 {
+        return meshes::one_piece(tape, start);
+    }
+    if step == 8 {
+        return files::write_mesh(tape, start);
+    }
+    files::read_mesh(tape, start)
 }
 
 // Replays the calls of a tape, whose first word says how many they are.

@@ -35,3 +35,16 @@ pub fn table(entries: &[u32]) {
     }
     end();
 }
+
+fn byte(x: u8) {
+    number(x as u64);
+}
+
+pub fn bytes(entries: &[u8]) {
+    let mut i: usize = 0;
+    while i < entries.len() {
+        byte(entries[i]);
+        i += 1;
+    }
+    end();
+}

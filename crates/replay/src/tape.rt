@@ -6,6 +6,11 @@ pub fn filled() -> [u32; 16_384] {
     [0xA5A5_A5A5u32; 16_384]
 }
 
+// The same for a table of bytes.
+pub fn filled_bytes() -> [u8; 16_384] {
+    [0xA5u8; 16_384]
+}
+
 // The word at a place, counted in words.
 pub fn word(tape: &[u8], at: usize) -> u32 {
     if at < tape.len() / 4 {
@@ -40,6 +45,16 @@ pub fn fill(tape: &[u8], at: usize, table: &mut [u32]) -> usize {
     let mut i: usize = 0;
     while i < table.len() {
         table[i] = word(tape, on(at, i));
+        i += 1;
+    }
+    on(at, i)
+}
+
+// The same for a table of bytes, each the low byte of a word.
+pub fn fill_bytes(tape: &[u8], at: usize, table: &mut [u8]) -> usize {
+    let mut i: usize = 0;
+    while i < table.len() {
+        table[i] = (word(tape, on(at, i)) % 256) as u8;
         i += 1;
     }
     on(at, i)

@@ -2,7 +2,7 @@
 
 pub mod boxes;
 mod crossings;
-mod damage;
+pub mod damage;
 pub mod files;
 pub mod grid;
 mod huge;

@@ -3,9 +3,9 @@
 
 use crate::record::Record;
 use crate::tape::Tape;
-use oracle::calls::PlanCall;
+use oracle::calls::{Format, PlanCall};
 use oracle::random::Random;
-use oracle::steps::{boxes, keep, worked};
+use oracle::steps::{boxes, damage, files, keep, meshes, rooms, worked};
 
 /// How many random calls of a step are looked at.
 const LOOKED_AT: usize = 3_000;
@@ -34,11 +34,35 @@ fn plans(tape: &mut Tape, random: &mut Random) {
     }
 }
 
+/// Whole and damaged files, with rooms of every kind.
+fn readings(tape: &mut Tape, random: &mut Random, format: Format) {
+    offered(tape, random, |random| {
+        let sample = meshes::any(random);
+        let reading = files::Reading::of(format, &sample);
+        let file = match random.below(3) {
+            0 => format.encode(sample.mesh()),
+            1 => damage::trailed(random, &format.encode(sample.mesh())),
+            _ => damage::mixed(random, &format.encode(sample.mesh())),
+        };
+        let room = rooms::lengths(random, reading.needs);
+        reading.call(random, &file, room)
+    });
+}
+
+fn writings(tape: &mut Tape, random: &mut Random, format: Format) {
+    offered(tape, random, |random| {
+        let sample = meshes::any(random);
+        files::write(random, format, &sample)
+    });
+}
+
 pub fn all(seed: u64) -> Tape {
     let mut tape = Tape::default();
     let random = &mut Random::new(seed);
     plans(&mut tape, random);
     offered(&mut tape, random, keep::components);
     offered(&mut tape, random, keep::one_piece);
+    writings(&mut tape, random, Format::Mesh);
+    readings(&mut tape, random, Format::Mesh);
     tape
 }

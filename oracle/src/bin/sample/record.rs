@@ -43,7 +43,7 @@ fn bytes_as_words(table: &Lent<u8>) -> impl Iterator<Item = u32> + '_ {
 
 pub trait Record: Call {
     /// The step's number on the tape.
-    const CODE: u32;
+    fn code(&self) -> u32;
 
     fn lengths(&self) -> Vec<usize>;
 
@@ -75,7 +75,9 @@ fn plan_words(plan: &PlanCall) -> Vec<u32> {
 }
 
 impl Record for PlanCall {
-    const CODE: u32 = 0;
+    fn code(&self) -> u32 {
+        0
+    }
 
     fn lengths(&self) -> Vec<usize> {
         Vec::new()
@@ -111,7 +113,9 @@ impl Record for PlanCall {
 }
 
 impl Record for ComponentsCall {
-    const CODE: u32 = 1;
+    fn code(&self) -> u32 {
+        1
+    }
 
     fn lengths(&self) -> Vec<usize> {
         let input = &self.input;
@@ -144,7 +148,9 @@ impl Record for ComponentsCall {
 }
 
 impl Record for OnePieceCall {
-    const CODE: u32 = 2;
+    fn code(&self) -> u32 {
+        2
+    }
 
     fn lengths(&self) -> Vec<usize> {
         vec![
@@ -174,7 +180,9 @@ impl Record for OnePieceCall {
 }
 
 impl Record for RefineCall {
-    const CODE: u32 = 3;
+    fn code(&self) -> u32 {
+        3
+    }
 
     fn lengths(&self) -> Vec<usize> {
         vec![self.crossing.len(), self.split.len()]
@@ -203,7 +211,9 @@ impl Record for RefineCall {
 }
 
 impl Record for GridCall {
-    const CODE: u32 = 4;
+    fn code(&self) -> u32 {
+        4
+    }
 
     fn lengths(&self) -> Vec<usize> {
         let room = [
@@ -242,7 +252,9 @@ impl Record for GridCall {
 }
 
 impl Record for RepresentativesCall {
-    const CODE: u32 = 5;
+    fn code(&self) -> u32 {
+        5
+    }
 
     fn lengths(&self) -> Vec<usize> {
         let inputs = [
@@ -281,12 +293,15 @@ impl Record for RepresentativesCall {
 }
 
 impl Record for KeepCall {
-    /// Both: a probe table stands on the tape for Crust too, with no entries.
-    const CODE: u32 = 6;
+    fn code(&self) -> u32 {
+        match self.probe {
+            Some(_) => 6,
+            None => 7,
+        }
+    }
 
-    /// The first is 1 for Cover.
     fn lengths(&self) -> Vec<usize> {
-        let probe = self.probe.as_ref();
+        let probe = self.probe.iter().map(|table| table.len());
         let inputs = [
             self.input.points.len(),
             self.input.cells.len(),
@@ -297,8 +312,7 @@ impl Record for KeepCall {
             self.kept_cells.len(),
             self.work.len(),
         ];
-        let own = vec![probe.is_some().into(), probe.map_or(0, |table| table.len())];
-        [own, inputs.to_vec(), room.to_vec()].concat()
+        inputs.into_iter().chain(probe).chain(room).collect()
     }
 
     fn filled(&self) -> Self {
@@ -329,24 +343,22 @@ impl Record for KeepCall {
     }
 }
 
-fn of_format(format: Format) -> usize {
-    match format {
-        Format::Mesh => 0,
-        Format::Vtk => 1,
-    }
-}
-
 impl Record for WriteCall {
-    const CODE: u32 = 7;
+    fn code(&self) -> u32 {
+        match self.format {
+            Format::Mesh => 8,
+            Format::Vtk => 10,
+        }
+    }
 
-    /// The first is 0 for a mesh file, 1 for VTK.
     fn lengths(&self) -> Vec<usize> {
-        let inputs = [
-            of_format(self.format),
-            self.input.points.len(),
-            self.input.cells.len(),
-        ];
-        [inputs.to_vec(), vec![self.file.len(), self.work.len()]].concat()
+        let input = &self.input;
+        vec![
+            input.points.len(),
+            input.cells.len(),
+            self.file.len(),
+            self.work.len(),
+        ]
     }
 
     fn filled(&self) -> Self {
@@ -370,12 +382,20 @@ impl Record for WriteCall {
 }
 
 impl Record for ReadCall {
-    const CODE: u32 = 8;
+    fn code(&self) -> u32 {
+        match self.format {
+            Format::Mesh => 9,
+            Format::Vtk => 11,
+        }
+    }
 
-    /// The first is 0 for a mesh file, 1 for VTK.
     fn lengths(&self) -> Vec<usize> {
-        let room = [self.points.len(), self.cells.len(), self.work.len()];
-        [vec![of_format(self.format), self.file.len()], room.to_vec()].concat()
+        vec![
+            self.file.len(),
+            self.points.len(),
+            self.cells.len(),
+            self.work.len(),
+        ]
     }
 
     fn filled(&self) -> Self {

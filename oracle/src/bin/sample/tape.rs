@@ -26,7 +26,7 @@ impl Tape {
             return false;
         }
         let mut filled = call.filled();
-        let mut words = vec![R::CODE];
+        let mut words = vec![call.code()];
         words.extend(call.lengths().iter().map(|len| *len as u32));
         words.extend(filled.words());
         let outcome = filled.expected();
