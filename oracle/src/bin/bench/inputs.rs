@@ -62,8 +62,8 @@ fn input(name: &str, side: f32, levels: u32, radius: f32, crossed: Crossed) -> I
 pub fn all(reach: Reach) -> Vec<Input> {
     let mut inputs = vec![
         input("L 0, 40 an axis", 16.0, 0, 7.0, Crossed::None),
-        input("L 3, shell in 6 roots an axis", 0.0, 3, 1.4, Crossed::Shell),
-        input("L 4, shell in 6 roots an axis", 0.0, 4, 1.4, Crossed::Shell),
+        input("L 3, shell in 6 roots an axis", 0.0, 3, 1.9, Crossed::Shell),
+        input("L 4, shell in 6 roots an axis", 0.0, 4, 1.9, Crossed::Shell),
     ];
     if reach >= Reach::Usual {
         inputs.push(input("L 0, 128 an axis", 60.0, 0, 25.0, Crossed::None));
@@ -71,7 +71,7 @@ pub fn all(reach: Reach) -> Vec<Input> {
             "L 5, shell in 6 roots an axis",
             0.0,
             5,
-            1.4,
+            1.9,
             Crossed::Shell,
         ));
         inputs.push(input(

@@ -1,6 +1,6 @@
 //! Both sides of each step, timed. A step that is not in the library is passed over.
 
-use crate::clock::timed;
+use crate::clock::{least, timed};
 use crate::inputs::Input;
 use crate::table::Table;
 use lifted::lent::MeshOracle;
@@ -299,12 +299,17 @@ impl<'a> Meshed<'a> {
         }
     }
 
+    /// The least that a writer or a reader in Rust must do: number the components and move the bytes.
     fn file(&self, format: Format, table: &mut Table) {
         let (points, cells) = self.counts();
+        let mesh = self.volume_mesh();
         let file = format.encode(self.input.mesh());
-        let size = format!("{}, {} bytes", self.size, thousands(file.len()));
         let mut copy = vec![1; file.len()];
         let mut copied = || timed(|| copy.copy_from_slice(black_box(&file))).1;
+        let copying = least(3, &mut copied);
+        let bytes = thousands(file.len());
+        let size = format!("{}, {bytes} bytes, copied in {copying:.1} ms", self.size);
+        let mut rust = || timed(|| mesh.connected_components()).1 + copied();
         let mut write = WriteCall {
             format,
             input: self.input.clone(),
@@ -312,9 +317,7 @@ impl<'a> Meshed<'a> {
             work: dirty(2 * points),
         };
         let (writer, reader) = (format.writer(), format.reader());
-        table.row(writer, self.name, &size, &mut copied, || {
-            answered(&mut write)
-        });
+        table.row(writer, self.name, &size, &mut rust, || answered(&mut write));
         let mut read = ReadCall {
             format,
             file: Lent::new(&file),
@@ -322,8 +325,6 @@ impl<'a> Meshed<'a> {
             cells: dirty(4 * cells),
             work: dirty(2 * points),
         };
-        table.row(reader, self.name, &size, &mut copied, || {
-            answered(&mut read)
-        });
+        table.row(reader, self.name, &size, &mut rust, || answered(&mut read));
     }
 }
