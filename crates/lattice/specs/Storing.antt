@@ -26,6 +26,8 @@ pub record Dims (nx ny nz : ℕ) : Type 0 where
 pub record Counted (d : Pos) (r : Counts) : Type 0 where
   pub cells-are : r .cells ≡ length (latticeCells d)
   pub vertices-are : r .vertices ≡ length (latticeVertices d)
+  pub cells-few : r .cells ≤ 3295500
+  pub vertices-few : r .vertices ≤ 549250
 
 pub record OctaFits (o : List ℕ) (at : ℕ) (t : Bool) (c f low u v : ℕ) : Type 0 where
   pub room : Room o at (octaNumbers t c f low u v)

@@ -70,6 +70,8 @@ returns c =
     record {
       cells-are = omega (arith, c .before .before .before .before .times .ensures .0, c .before .before .before .times2 .ensures .0, c .before .before .times3 .ensures .0, cells-count d);
       vertices-are = omega (arith, c .before .times4 .ensures .0, c .times5 .ensures .0, vertices-count d);
+      cells-few = omega arith;
+      vertices-few = omega arith;
     }
 
 pub count-spec : {M : Type 1} → statement M

@@ -1,0 +1,2 @@
+-- Laws that the proofs of grid share.
+pub mod Outcomes

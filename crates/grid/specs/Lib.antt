@@ -1,0 +1,3 @@
+-- The definitions that the contracts of grid cite.
+pub mod Grid
+pub mod Step
