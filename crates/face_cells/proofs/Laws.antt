@@ -6,19 +6,19 @@ use Prim.Native.Nat.{ℕ, zero, suc, _+_, _*_, _≤_}
 use native.Mathlib.Omega.{arith}
 use lib.ListN.{length, length-append}
 use lib.Seq.{sets, length-sets}
-use Rattle.lists.specs.Runs.{Stored}
-use Rattle.lists.proofs.Running.{stored-both}
+use Rattle.lists.specs.Runs.{Stored, Splits, Room}
+use Rattle.lists.proofs.Running.{stored-both, room-as, room-first}
 use Rattle.sides.specs.declared.Beside.{Beside}
 use Rattle.sides.specs.declared.Beside.the-variants.{Split, Equal, Given, Coarser, Border}
-use Rattle.face_cells.specs.Numbers.{Room, overNumbers, fanNumbers, halvesNumbers, turnedNumbers, faceNumbers, axisNumbers, axisKeyed, turnsOf}
+use Rattle.face_cells.specs.Numbers.{overNumbers, fanNumbers, halvesNumbers, turnedNumbers, faceNumbers, axisNumbers, axisKeyed, turnsOf}
 
 -- ---- room
 
-pub room-as : {o K A : List ℕ} {at : ℕ} → K ≡ A → Room o at K → Room o at A
-room-as {o} {K} {A} {at} e h = subst (Room o at) e h
+pub room-to : {o K A : List ℕ} {at : ℕ} → K ≡ A → Room o at K → Room o at A
+room-to e h = room-as (sym e) h
 
 pub room-front : (A B : List ℕ) {o : List ℕ} {at : ℕ} → Room o at (A ++ B) → Room o at A
-room-front A B h = record { fits = omega (arith, length-append A B, h .fits) }
+room-front A B h = room-first (record { whole = refl }) h
 
 pub room-rest : (A B : List ℕ) {o o₁ : List ℕ} {at r : ℕ} → Room o at (A ++ B) → Stored o at A r o₁ → Room o₁ r B
 room-rest A B {o} {o₁} {at} {r} h p =

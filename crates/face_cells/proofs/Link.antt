@@ -106,7 +106,7 @@ module _ (m : ℕ) (x : Pos) (a : Axis) where
   abbrev w : ℕ
   w = half m (next (next a))
 
-  key-of : (p q : Pos) → Here a m x p q → keyOf p ≡ spot (lowKey m x a) u v w q
+  pub key-of : (p q : Pos) → Here a m x p q → keyOf p ≡ spot (lowKey m x a) u v w q
   key-of p q d =
       key-turn a p
       ∙ drawn-sum _ _ _ (2 ^ m) (q ax) (q ay) (q az) (stride a) (stride (next a)) (stride (next (next a))) _ _ _ (d .on0) (d .on1) (d .on2)

@@ -3,7 +3,7 @@ use mathlib.Core.Bool.{Bool, true, false, cond}
 use mathlib.Core.List.{List, [], _∷_, _++_}
 use mathlib.Core.Path.{_≡_}
 use Prim.Native.Nat.{ℕ, zero, suc, _+_, _*_, _≤_}
-use lib.ListN.{length, take}
+use lib.ListN.{take}
 use Rattle.numbering.specs.Distinct.{rank}
 use Rattle.sides.specs.declared.Beside.{Beside}
 use Rattle.sides.specs.declared.Beside.the-variants.{Split, Equal, Given, Coarser, Border}
@@ -12,10 +12,6 @@ use Rattle.sides.specs.declared.Sides.{Sides}
 -- the number of a key among the first v entries of the work
 abbrev pub numberIn : List ℕ → ℕ → ℕ → ℕ
 numberIn w v key = rank key (take v w)
-
--- a table has room for the list from `at` on
-pub record Room (o : List ℕ) (at : ℕ) (l : List ℕ) : Type 0 where
-  pub fits : at + length l ≤ length o
 
 unfoldable pub overNumbers : Bool → (p q a m b : ℕ) → List ℕ
 overNumbers fine p q a m b = cond fine (p ∷ q ∷ a ∷ m ∷ p ∷ q ∷ m ∷ b ∷ []) (p ∷ q ∷ a ∷ b ∷ [])

@@ -8,9 +8,9 @@ ghost use mathlib.Core.Bool.{Bool, true};
 ghost use mathlib.Core.List.{List, [], _∷_, _++_};
 ghost use Prim.Native.Nat.{ℕ, _+_, _*_, _^_, _≤_, _<_};
 ghost use lib.ListN.{length};
-ghost use Rattle.lists.specs.Runs.{Stored};
+ghost use Rattle.lists.specs.Runs.{Stored, Room};
 ghost use Rattle.numbering.specs.Distinct.{Lookup};
-ghost use Rattle.face_cells.specs.Numbers.{Room, numberIn, overNumbers, fanNumbers, halvesNumbers, turnedNumbers, faceNumbers, axisNumbers, leafNumbers, Turns, AllTurn};
+ghost use Rattle.face_cells.specs.Numbers.{numberIn, overNumbers, fanNumbers, halvesNumbers, turnedNumbers, faceNumbers, axisNumbers, leafNumbers, Turns, AllTurn};
 
 // The cells over an edge a, b between p and q: two where a finer vertex stands at its midpoint, whose key is m.
 fn over(

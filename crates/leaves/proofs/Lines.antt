@@ -14,7 +14,7 @@ use Rattle.cells.specs.Cells.{down, boxDown, below, child, two, overLeaves}
 use Rattle.leaves.specs.Leaves.{kids}
 
 module _ {A : Type 0} where
-  down-cong : (n : ℕ) (f g : ℕ → List A) → ((i : ℕ) → i < n → f i ≡ g i) → down n f ≡ down n g
+  pub down-cong : (n : ℕ) (f g : ℕ → List A) → ((i : ℕ) → i < n → f i ≡ g i) → down n f ≡ down n g
   unfolding down
   down-cong zero f g h = refl
   down-cong (suc n) f g h = ap₂ (λ (a b : List A). a ++ b) (h n (omega arith)) (down-cong n f g (λ i q. h i (omega arith)))

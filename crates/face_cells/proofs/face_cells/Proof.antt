@@ -1,7 +1,7 @@
 use borrow.Author.Needs.{needs}
 use native.Mathlib.Omega.{arith}
 use Rattle.lists.proofs.Running.{stored-as, stored-none}
-use Rattle.face_cells.proofs.Laws.{room-as, face-split, face-equal, face-given, face-coarser, face-border, turned-room, turns-few}
+use Rattle.face_cells.proofs.Laws.{room-to, face-split, face-equal, face-given, face-coarser, face-border, turned-room, turns-few}
 use Rattle.face_cells.proofs.face_cells.Statement.{statement}
 use Rattle.face_cells.proofs.face_cells.Tie as tie
 use Rattle.face_cells.proofs.face_cells.Reads as reads
@@ -24,7 +24,7 @@ find-requires : tie.Need-find-requires
 find-requires c κs = search needs
 
 fan-requires : tie.Need-fan-requires
-fan-requires c κs = (c .before .before .before .before .before .before .pre .0, (omega (arith, c .before .before .before .before .before .before .pre .1 .0), room-as (face-split _ _ _ _ _ _ _ _ _ _ _ _ (c .before .before .enum-told .given .1) (c .before .find .ensures)) (c .before .before .before .before .before .before .pre .1 .1 .1)))
+fan-requires c κs = (c .before .before .before .before .before .before .pre .0, (omega (arith, c .before .before .before .before .before .before .pre .1 .0), room-to (face-split _ _ _ _ _ _ _ _ _ _ _ _ (c .before .before .enum-told .given .1) (c .before .find .ensures)) (c .before .before .before .before .before .before .pre .1 .1 .1)))
 
 enum-known-side : tie.Need-enum-known-side
 enum-known-side c = search needs
@@ -42,7 +42,7 @@ find-requires-2 : tie.Need-find-requires-2
 find-requires-2 c κs = search needs
 
 fan-requires-2 : tie.Need-fan-requires-2
-fan-requires-2 c κs = (c .before .before .before .before .before .before .before .pre .0, (omega (arith, c .before .before .before .before .before .before .before .pre .1 .0), room-as (face-equal _ _ _ _ _ _ _ _ _ _ _ _ (c .before .before .before .side .given .1) (c .before .find2 .ensures)) (c .before .before .before .before .before .before .before .pre .1 .1 .1)))
+fan-requires-2 c κs = (c .before .before .before .before .before .before .before .pre .0, (omega (arith, c .before .before .before .before .before .before .before .pre .1 .0), room-to (face-equal _ _ _ _ _ _ _ _ _ _ _ _ (c .before .before .before .side .given .1) (c .before .find2 .ensures)) (c .before .before .before .before .before .before .before .pre .1 .1 .1)))
 
 enum-told-2 : tie.Need-enum-told-2
 enum-told-2 c = search needs
@@ -51,13 +51,13 @@ enum-known-side-2 : tie.Need-enum-known-side-2
 enum-known-side-2 c = search needs
 
 turned-requires : tie.Need-turned-requires
-turned-requires c κs = (turns-few _ (c .before .before .side2 .given .1) (c .before .before .before .before .before .before .pre .1 .1 .0), turned-room _ _ _ _ _ _ (room-as (face-coarser _ _ _ _ _ _ _ _ _ _ _ (c .before .before .side2 .given .1)) (c .before .before .before .before .before .before .pre .1 .1 .1)))
+turned-requires c κs = (turns-few _ (c .before .before .side2 .given .1) (c .before .before .before .before .before .before .pre .1 .1 .0), turned-room _ _ _ _ _ _ (room-to (face-coarser _ _ _ _ _ _ _ _ _ _ _ (c .before .before .side2 .given .1)) (c .before .before .before .before .before .before .pre .1 .1 .1)))
 
 enum-told-3 : tie.Need-enum-told-3
 enum-told-3 c = search needs
 
 halves-requires : tie.Need-halves-requires
-halves-requires c κs = room-as (face-border _ _ _ _ _ _ _ _ _ _ _ (c .before .enum-told3 .given .1)) (c .before .before .before .before .before .pre .1 .1 .1)
+halves-requires c κs = room-to (face-border _ _ _ _ _ _ _ _ _ _ _ (c .before .enum-told3 .given .1)) (c .before .before .before .before .before .pre .1 .1 .1)
 
 same-length : tie.Need-same-length
 same-length c = search needs

@@ -3,7 +3,7 @@ use mathlib.Core.Path.{refl}
 use native.Mathlib.Omega.{arith}
 use Rattle.lists.proofs.Running.{stored-both, stored-as}
 use Rattle.face_cells.specs.Numbers.{leafNumbers}
-use Rattle.face_cells.proofs.Laws.{room-as, room-front, room-rest, keyed}
+use Rattle.face_cells.proofs.Laws.{room-to, room-front, room-rest, keyed}
 use Rattle.face_cells.proofs.six_faces.Statement.{statement}
 use Rattle.face_cells.proofs.six_faces.Tie as tie
 use Rattle.face_cells.proofs.six_faces.Reads as reads
@@ -85,15 +85,15 @@ find-requires-9 c κs = search needs
 
 axis-cells-requires : tie.Need-axis-cells-requires
 unfolding leafNumbers
-axis-cells-requires c κs = (c .before .before .before .before .before .before .before .before .before .before .before .before .pre .0, (omega (arith, c .before .before .before .before .before .before .before .before .before .before .before .before .pre .1 .0), (c .before .before .before .before .before .before .before .before .before .before .before .before .pre .1 .1 .0 .x, room-as (keyed _ _ _ _ _ _ _ _ _ _ _ _ _ _ _ _ (c .before .before .before .before .before .before .before .before .before .find .ensures) (c .before .before .before .before .before .before .before .before .find2 .ensures) (c .before .before .before .before .before .before .find4 .ensures) (c .before .before .find8 .ensures) (c .before .before .before .before .find6 .ensures) (c .before .before .before .before .before .before .before .find3 .ensures) (c .before .before .before .before .before .find5 .ensures) (c .before .find9 .ensures) (c .before .before .before .find7 .ensures) (omega arith) (omega arith) (omega arith) (omega arith) (omega arith) (omega arith) (omega arith) (omega arith) (omega arith)) (room-front _ _ (c .before .before .before .before .before .before .before .before .before .before .before .before .pre .1 .1 .1)))))
+axis-cells-requires c κs = (c .before .before .before .before .before .before .before .before .before .before .before .before .pre .0, (omega (arith, c .before .before .before .before .before .before .before .before .before .before .before .before .pre .1 .0), (c .before .before .before .before .before .before .before .before .before .before .before .before .pre .1 .1 .0 .x, room-to (keyed _ _ _ _ _ _ _ _ _ _ _ _ _ _ _ _ (c .before .before .before .before .before .before .before .before .before .find .ensures) (c .before .before .before .before .before .before .before .before .find2 .ensures) (c .before .before .before .before .before .before .find4 .ensures) (c .before .before .find8 .ensures) (c .before .before .before .before .find6 .ensures) (c .before .before .before .before .before .before .before .find3 .ensures) (c .before .before .before .before .before .find5 .ensures) (c .before .find9 .ensures) (c .before .before .before .find7 .ensures) (omega arith) (omega arith) (omega arith) (omega arith) (omega arith) (omega arith) (omega arith) (omega arith) (omega arith)) (room-front _ _ (c .before .before .before .before .before .before .before .before .before .before .before .before .pre .1 .1 .1)))))
 
 axis-cells-requires-2 : tie.Need-axis-cells-requires-2
 unfolding leafNumbers
-axis-cells-requires-2 c κs = (c .before .before .before .before .before .before .before .before .before .before .before .before .before .before .before .before .pre .0, (omega (arith, c .before .before .before .before .before .before .before .before .before .before .before .before .before .before .before .before .pre .1 .0), (c .before .before .before .before .before .before .before .before .before .before .before .before .before .before .before .before .pre .1 .1 .0 .y, room-as (keyed _ _ _ _ _ _ _ _ _ _ _ _ _ _ _ _ (c .before .before .before .before .before .before .before .before .before .before .before .before .before .find .ensures) (c .before .before .before .before .before .before .before .before .before .before .before .before .find2 .ensures) (c .before .before .before .before .before .before .before .before .find6 .ensures) (c .before .before .before .before .before .before .before .find7 .ensures) (c .before .before .before .before .before .before .before .before .before .before .before .find3 .ensures) (c .before .before .before .before .before .before .before .before .before .before .find4 .ensures) (c .before .before .before .before .before .before .find8 .ensures) (c .before .before .before .before .before .find9 .ensures) (c .before .before .before .before .before .before .before .before .before .find5 .ensures) (omega arith) (omega arith) (omega arith) (omega arith) (omega arith) (omega arith) (omega arith) (omega arith) (omega arith)) (room-front _ _ (room-rest _ _ (c .before .before .before .before .before .before .before .before .before .before .before .before .before .before .before .before .pre .1 .1 .1) (stored-as (keyed _ _ _ _ _ _ _ _ _ _ _ _ _ _ _ _ (c .before .before .before .before .before .before .before .before .before .before .before .before .before .find .ensures) (c .before .before .before .before .before .before .before .before .before .before .before .before .find2 .ensures) (c .before .before .before .before .before .before .before .before .before .before .find4 .ensures) (c .before .before .before .before .before .before .find8 .ensures) (c .before .before .before .before .before .before .before .before .find6 .ensures) (c .before .before .before .before .before .before .before .before .before .before .before .find3 .ensures) (c .before .before .before .before .before .before .before .before .before .find5 .ensures) (c .before .before .before .before .before .find9 .ensures) (c .before .before .before .before .before .before .before .find7 .ensures) (omega arith) (omega arith) (omega arith) (omega arith) (omega arith) (omega arith) (omega arith) (omega arith) (omega arith)) (c .before .before .before .axis-cells .ensures)))))))
+axis-cells-requires-2 c κs = (c .before .before .before .before .before .before .before .before .before .before .before .before .before .before .before .before .pre .0, (omega (arith, c .before .before .before .before .before .before .before .before .before .before .before .before .before .before .before .before .pre .1 .0), (c .before .before .before .before .before .before .before .before .before .before .before .before .before .before .before .before .pre .1 .1 .0 .y, room-to (keyed _ _ _ _ _ _ _ _ _ _ _ _ _ _ _ _ (c .before .before .before .before .before .before .before .before .before .before .before .before .before .find .ensures) (c .before .before .before .before .before .before .before .before .before .before .before .before .find2 .ensures) (c .before .before .before .before .before .before .before .before .find6 .ensures) (c .before .before .before .before .before .before .before .find7 .ensures) (c .before .before .before .before .before .before .before .before .before .before .before .find3 .ensures) (c .before .before .before .before .before .before .before .before .before .before .find4 .ensures) (c .before .before .before .before .before .before .find8 .ensures) (c .before .before .before .before .before .find9 .ensures) (c .before .before .before .before .before .before .before .before .before .find5 .ensures) (omega arith) (omega arith) (omega arith) (omega arith) (omega arith) (omega arith) (omega arith) (omega arith) (omega arith)) (room-front _ _ (room-rest _ _ (c .before .before .before .before .before .before .before .before .before .before .before .before .before .before .before .before .pre .1 .1 .1) (stored-as (keyed _ _ _ _ _ _ _ _ _ _ _ _ _ _ _ _ (c .before .before .before .before .before .before .before .before .before .before .before .before .before .find .ensures) (c .before .before .before .before .before .before .before .before .before .before .before .before .find2 .ensures) (c .before .before .before .before .before .before .before .before .before .before .find4 .ensures) (c .before .before .before .before .before .before .find8 .ensures) (c .before .before .before .before .before .before .before .before .find6 .ensures) (c .before .before .before .before .before .before .before .before .before .before .before .find3 .ensures) (c .before .before .before .before .before .before .before .before .before .find5 .ensures) (c .before .before .before .before .before .find9 .ensures) (c .before .before .before .before .before .before .before .find7 .ensures) (omega arith) (omega arith) (omega arith) (omega arith) (omega arith) (omega arith) (omega arith) (omega arith) (omega arith)) (c .before .before .before .axis-cells .ensures)))))))
 
 axis-cells-requires-3 : tie.Need-axis-cells-requires-3
 unfolding leafNumbers
-axis-cells-requires-3 c κs = (c .before .before .before .before .before .before .before .before .before .before .before .before .before .before .before .before .before .before .before .before .pre .0, (omega (arith, c .before .before .before .before .before .before .before .before .before .before .before .before .before .before .before .before .before .before .before .before .pre .1 .0), (c .before .before .before .before .before .before .before .before .before .before .before .before .before .before .before .before .before .before .before .before .pre .1 .1 .0 .z, room-as (keyed _ _ _ _ _ _ _ _ _ _ _ _ _ _ _ _ (c .before .before .before .before .before .before .before .before .before .before .before .before .before .before .before .before .before .find .ensures) (c .before .before .before .before .before .before .before .before .before .before .before .before .before .before .before .before .find2 .ensures) (c .before .before .before .before .before .before .before .before .before .before .before .before .before .before .before .find3 .ensures) (c .before .before .before .before .before .before .before .before .before .before .before .before .before .find5 .ensures) (c .before .before .before .before .before .before .before .before .before .before .before .before .before .before .find4 .ensures) (c .before .before .before .before .before .before .before .before .before .before .before .before .find6 .ensures) (c .before .before .before .before .before .before .before .before .before .before .before .find7 .ensures) (c .before .before .before .before .before .before .before .before .before .find9 .ensures) (c .before .before .before .before .before .before .before .before .before .before .find8 .ensures) (omega arith) (omega arith) (omega arith) (omega arith) (omega arith) (omega arith) (omega arith) (omega arith) (omega arith)) (room-rest _ _ (room-rest _ _ (c .before .before .before .before .before .before .before .before .before .before .before .before .before .before .before .before .before .before .before .before .pre .1 .1 .1) (stored-as (keyed _ _ _ _ _ _ _ _ _ _ _ _ _ _ _ _ (c .before .before .before .before .before .before .before .before .before .before .before .before .before .before .before .before .before .find .ensures) (c .before .before .before .before .before .before .before .before .before .before .before .before .before .before .before .before .find2 .ensures) (c .before .before .before .before .before .before .before .before .before .before .before .before .before .before .find4 .ensures) (c .before .before .before .before .before .before .before .before .before .before .find8 .ensures) (c .before .before .before .before .before .before .before .before .before .before .before .before .find6 .ensures) (c .before .before .before .before .before .before .before .before .before .before .before .before .before .before .before .find3 .ensures) (c .before .before .before .before .before .before .before .before .before .before .before .before .before .find5 .ensures) (c .before .before .before .before .before .before .before .before .before .find9 .ensures) (c .before .before .before .before .before .before .before .before .before .before .before .find7 .ensures) (omega arith) (omega arith) (omega arith) (omega arith) (omega arith) (omega arith) (omega arith) (omega arith) (omega arith)) (c .before .before .before .before .before .before .before .axis-cells .ensures))) (stored-as (keyed _ _ _ _ _ _ _ _ _ _ _ _ _ _ _ _ (c .before .before .before .before .before .before .before .before .before .before .before .before .before .before .before .before .before .find .ensures) (c .before .before .before .before .before .before .before .before .before .before .before .before .before .before .before .before .find2 .ensures) (c .before .before .before .before .before .before .before .before .before .before .before .before .find6 .ensures) (c .before .before .before .before .before .before .before .before .before .before .before .find7 .ensures) (c .before .before .before .before .before .before .before .before .before .before .before .before .before .before .before .find3 .ensures) (c .before .before .before .before .before .before .before .before .before .before .before .before .before .before .find4 .ensures) (c .before .before .before .before .before .before .before .before .before .before .find8 .ensures) (c .before .before .before .before .before .before .before .before .before .find9 .ensures) (c .before .before .before .before .before .before .before .before .before .before .before .before .before .find5 .ensures) (omega arith) (omega arith) (omega arith) (omega arith) (omega arith) (omega arith) (omega arith) (omega arith) (omega arith)) (c .before .before .before .axis-cells2 .ensures))))))
+axis-cells-requires-3 c κs = (c .before .before .before .before .before .before .before .before .before .before .before .before .before .before .before .before .before .before .before .before .pre .0, (omega (arith, c .before .before .before .before .before .before .before .before .before .before .before .before .before .before .before .before .before .before .before .before .pre .1 .0), (c .before .before .before .before .before .before .before .before .before .before .before .before .before .before .before .before .before .before .before .before .pre .1 .1 .0 .z, room-to (keyed _ _ _ _ _ _ _ _ _ _ _ _ _ _ _ _ (c .before .before .before .before .before .before .before .before .before .before .before .before .before .before .before .before .before .find .ensures) (c .before .before .before .before .before .before .before .before .before .before .before .before .before .before .before .before .find2 .ensures) (c .before .before .before .before .before .before .before .before .before .before .before .before .before .before .before .find3 .ensures) (c .before .before .before .before .before .before .before .before .before .before .before .before .before .find5 .ensures) (c .before .before .before .before .before .before .before .before .before .before .before .before .before .before .find4 .ensures) (c .before .before .before .before .before .before .before .before .before .before .before .before .find6 .ensures) (c .before .before .before .before .before .before .before .before .before .before .before .find7 .ensures) (c .before .before .before .before .before .before .before .before .before .find9 .ensures) (c .before .before .before .before .before .before .before .before .before .before .find8 .ensures) (omega arith) (omega arith) (omega arith) (omega arith) (omega arith) (omega arith) (omega arith) (omega arith) (omega arith)) (room-rest _ _ (room-rest _ _ (c .before .before .before .before .before .before .before .before .before .before .before .before .before .before .before .before .before .before .before .before .pre .1 .1 .1) (stored-as (keyed _ _ _ _ _ _ _ _ _ _ _ _ _ _ _ _ (c .before .before .before .before .before .before .before .before .before .before .before .before .before .before .before .before .before .find .ensures) (c .before .before .before .before .before .before .before .before .before .before .before .before .before .before .before .before .find2 .ensures) (c .before .before .before .before .before .before .before .before .before .before .before .before .before .before .find4 .ensures) (c .before .before .before .before .before .before .before .before .before .before .find8 .ensures) (c .before .before .before .before .before .before .before .before .before .before .before .before .find6 .ensures) (c .before .before .before .before .before .before .before .before .before .before .before .before .before .before .before .find3 .ensures) (c .before .before .before .before .before .before .before .before .before .before .before .before .before .find5 .ensures) (c .before .before .before .before .before .before .before .before .before .find9 .ensures) (c .before .before .before .before .before .before .before .before .before .before .before .find7 .ensures) (omega arith) (omega arith) (omega arith) (omega arith) (omega arith) (omega arith) (omega arith) (omega arith) (omega arith)) (c .before .before .before .before .before .before .before .axis-cells .ensures))) (stored-as (keyed _ _ _ _ _ _ _ _ _ _ _ _ _ _ _ _ (c .before .before .before .before .before .before .before .before .before .before .before .before .before .before .before .before .before .find .ensures) (c .before .before .before .before .before .before .before .before .before .before .before .before .before .before .before .before .find2 .ensures) (c .before .before .before .before .before .before .before .before .before .before .before .before .find6 .ensures) (c .before .before .before .before .before .before .before .before .before .before .before .find7 .ensures) (c .before .before .before .before .before .before .before .before .before .before .before .before .before .before .before .find3 .ensures) (c .before .before .before .before .before .before .before .before .before .before .before .before .before .before .find4 .ensures) (c .before .before .before .before .before .before .before .before .before .before .find8 .ensures) (c .before .before .before .before .before .before .before .before .before .find9 .ensures) (c .before .before .before .before .before .before .before .before .before .before .before .before .before .find5 .ensures) (omega arith) (omega arith) (omega arith) (omega arith) (omega arith) (omega arith) (omega arith) (omega arith) (omega arith)) (c .before .before .before .axis-cells2 .ensures))))))
 
 same-length : tie.Need-same-length
 same-length c = search needs

@@ -1,0 +1,151 @@
+-- A listed leaf is a leaf; its keys and its cells are those of the definition. Assumes nothing.
+use mathlib.Core.Path.{_≡_, refl, sym, ap, ap₂, _∙_, subst, fun-ext}
+use mathlib.Core.Bool.{Bool, true, false, _||_}
+use mathlib.Core.List.{List, [], _∷_, _++_}
+use mathlib.Core.Logic.{⊎-elim}
+use Prim.Native.Nat.{ℕ, zero, suc, _+_, _-_, _*_, _/_, _%_, _^_, _≤_, _<_, min}
+use native.Mathlib.Omega.{arith}
+use native.Mathlib.Nat.{mul-le-mul, not-suc-le-zero, le-of-suc-le-suc, lt-of-lt-of-le, pow-suc}
+use lib.Dec.{eqb}
+use lib.ListN.{length, getD, take, drop, length-append}
+use lib.Seq.{getD-take, getD-drop, sets, getD-set-other}
+use lib.Pow.{pow-mono, pow-pos}
+use borrow.Author.Tests.{eqb-true, eq-eqb}
+use Rattle.octants.specs.Oct.{Axis, ax, ay, az, Pos, pos, Tree}
+use Rattle.octants.specs.Near.{or-cases, clash, pos-eta}
+use Rattle.octants.specs.Table.{read}
+use Rattle.cells.specs.Cells.{Cell, boxDown, down, corner, centre, leafCells, cells, overLeaves, flat}
+use Rattle.cells.specs.Points.{drawn-corner}
+use Rattle.cells.specs.LeafSome.{IsLeaf, leaves-some}
+use Rattle.cells.specs.Vertices.{leafPoints, names, marks, vertices}
+use Rattle.lists.specs.Runs.{run}
+use Rattle.lists.specs.Counts.{unit, hit, cnt, SameSet}
+use Rattle.lists.proofs.Running.{run-same}
+use Rattle.numbering.specs.Keys.{keyOf}
+use Rattle.sides.specs.Told.{Taken}
+use Rattle.sides.proofs.Levels.{in-small}
+use Rattle.leaves.specs.Leaves.{packed, alone, leafList}
+use Rattle.face_cells.proofs.Link.{flat-append, lowKey, half, key-of, key-centre}
+use Rattle.leaf_cells.specs.Listed.{levelIn, placeIn, Placed, AllPlaced, nineKeys, keysOf, keysIn, keysFrom, leafKeys, Standing}
+use Rattle.leaf_cells.proofs.Listing.{level-back, place-back, each, each-leaves, each-run, map-each, leaves-same}
+
+-- ---- an entry of the list is a leaf
+
+unfoldable has : ℕ → List ℕ → Bool
+has z [] = false
+has z (y ∷ ys) = eqb z y || has z ys
+
+has-append : (z : ℕ) (a b : List ℕ) → has z (a ++ b) ≡ has z a || has z b
+unfolding has
+has-append z [] b = refl
+has-append z (y ∷ a) b = ap (λ (r : Bool). eqb z y || r) (has-append z a b) ∙ go (eqb z y) (has z a) (has z b)
+  where
+    go : (p q r : Bool) → p || (q || r) ≡ p || q || r
+    go true q r = refl
+    go false q r = refl
+
+has-at : (l : List ℕ) (j : ℕ) → j < length l → has (getD l j 0) l ≡ true
+unfolding has
+has-at [] j h = absurd (not-suc-le-zero h)
+has-at (y ∷ ys) zero h = ap (λ (b : Bool). b || has y ys) (eq-eqb y y refl)
+has-at (y ∷ ys) (suc j) h = ap (λ (b : Bool). eqb (getD ys j 0) y || b) (has-at ys j (le-of-suc-le-suc h)) ∙ go (eqb (getD ys j 0) y)
+  where
+    go : (b : Bool) → b || true ≡ true
+    go true = refl
+    go false = refl
+
+module _ (s : List ℕ) (nx ny nz l : ℕ) (h : Taken s nx ny nz l) where
+  abbrev d : Pos
+  d = pos nx ny nz
+
+  abbrev t : Tree
+  t = read d l s
+
+  unpacked : (m : ℕ) (x : Pos) → IsLeaf l d t m x → (levelIn (packed m x) ≡ m) × (placeIn (packed m x) ≡ x)
+  unpacked m x leaf = let b = in-small nx ny nz l m x (h .dims) (h .few) (leaf .inside) in (level-back m x b, place-back m x b)
+
+  pub leaf-at : (j : ℕ) → j < length (leafList l d t) → IsLeaf l d t (levelIn (getD (leafList l d t) j 0)) (placeIn (getD (leafList l d t) j 0))
+  unfolding has
+  leaf-at j p =
+      let z : ℕ = getD (leafList l d t) j 0 in
+      let r = leaves-some (has z) refl (has-append z) l d t alone (h .graded .finest) (has-at (leafList l d t) j p) in
+      let q : eqb z (packed (r .0) (r .1)) ≡ true = ⊎-elim (λ k. k) (λ k. clash k refl) (or-cases (eqb z (packed (r .0) (r .1))) false (r .3)) in
+      let e : z ≡ packed (r .0) (r .1) = eqb-true z (packed (r .0) (r .1)) q in
+      let u = unpacked (r .0) (r .1) (r .2) in
+      subst (λ (n : ℕ). IsLeaf l d t n (placeIn z)) (sym (ap levelIn e ∙ u .0))
+      (subst (λ (x : Pos). IsLeaf l d t (r .0) x) (sym (ap placeIn e ∙ u .1)) (r .2))
+
+  -- what the leaves give, entry by entry
+  module _ {A : Type 0} (f : ℕ → Pos → List A) where
+    leafwise : overLeaves l d t f ≡ each (λ z. f (levelIn z) (placeIn z)) (leafList l d t)
+    leafwise =
+        leaves-same l d t (h .graded .finest) f (λ m x. f (levelIn (packed m x)) (placeIn (packed m x)))
+        (λ m x leaf. let u = unpacked m x leaf in sym (ap₂ f (u .0) (u .1)))
+        ∙ sym (each-leaves (λ z. f (levelIn z) (placeIn z)) l d t)
+
+    module _ (g : List A → List ℕ) (none : g [] ≡ []) (both : (a b : List A) → g (a ++ b) ≡ g a ++ g b) where
+      by-list : g (overLeaves l d t f) ≡ run (length (leafList l d t)) (λ j. g (f (levelIn (getD (leafList l d t) j 0)) (placeIn (getD (leafList l d t) j 0)))) 0
+      by-list =
+          ap g leafwise ∙ map-each g none both (λ z. f (levelIn z) (placeIn z)) (leafList l d t)
+          ∙ each-run (λ z. g (f (levelIn z) (placeIn z))) (leafList l d t)
+
+      -- the list as it stands in the work
+      module _ (w : List ℕ) (list leaves : ℕ) (k : Standing s nx ny nz l w list leaves) where
+        entry-at : (j : ℕ) → j < leaves → getD w (list + j) 0 ≡ getD (leafList l d t) j 0
+        entry-at j p = sym (getD-drop list w j 0) ∙ sym (getD-take leaves (drop list w) j 0 p) ∙ ap (λ (r : List ℕ). getD r j 0) (k .here)
+
+        pub by-work : g (overLeaves l d t f) ≡ run leaves (λ j. g (f (levelIn (getD w (list + j) 0)) (placeIn (getD w (list + j) 0)))) 0
+        by-work =
+            by-list ∙ ap (λ (n : ℕ). run n (λ j. g (f (levelIn (getD (leafList l d t) j 0)) (placeIn (getD (leafList l d t) j 0)))) 0) (sym (k .many))
+            ∙ run-same leaves _ _ 0 (λ j a b. ap (λ (z : ℕ). g (f (levelIn z) (placeIn z))) (sym (entry-at j (omega arith))))
+
+  module _ (w : List ℕ) (list leaves : ℕ) (k : Standing s nx ny nz l w list leaves) where
+    same-at : (j : ℕ) → j < leaves → getD w (list + j) 0 ≡ getD (leafList l d t) j 0
+    same-at = entry-at alone (λ (r : List ℕ). r) refl (λ a b. refl) w list leaves k
+
+    pub listed : (j : ℕ) → j < leaves → IsLeaf l d t (levelIn (getD w (list + j) 0)) (placeIn (getD w (list + j) 0))
+    listed j p = subst (λ (z : ℕ). IsLeaf l d t (levelIn z) (placeIn z)) (sym (same-at j p)) (leaf-at j (omega (arith, k .many)))
+
+    pub cells-by : (f : Pos → ℕ) → flat f (cells l d t) ≡ run leaves (λ j. flat f (leafCells l d t (levelIn (getD w (list + j) 0)) (placeIn (getD w (list + j) 0)))) 0
+    unfolding flat
+    cells-by f = by-work (leafCells l d t) (flat f) refl (flat-append f) w list leaves k
+
+    keys-append : (a b : List Pos) → keysOf (a ++ b) ≡ keysOf a ++ keysOf b
+    unfolding keysOf
+    keys-append [] b = refl
+    keys-append (p ∷ a) b = ap (λ (r : List ℕ). keyOf p ∷ r) (keys-append a b)
+
+    -- the keys that are stored are those of the leaves
+    pub keys-by : leafKeys l d t ≡ keysFrom w list leaves
+    unfolding keysOf
+    keys-by = by-work leafPoints keysOf refl keys-append w list leaves k
+
+-- ---- the vertices of the cells are those of the leaves
+
+cnt-names : (x : ℕ) (cs : List Cell) → min 1 (cnt x (flat keyOf cs)) ≡ unit (names (λ p. eqb x (keyOf p)) cs)
+unfolding cnt flat names hit
+cnt-names x [] = omega arith
+cnt-names x (c ∷ cs) =
+    go (eqb x (keyOf (c .c0))) (eqb x (keyOf (c .c1))) (eqb x (keyOf (c .c2))) (eqb x (keyOf (c .c3))) (cnt x (flat keyOf cs))
+    (names (λ p. eqb x (keyOf p)) cs) (cnt-names x cs)
+  where
+    go : (p q r u : Bool) (n : ℕ) (b : Bool) → min 1 n ≡ unit b → min 1 (unit p + (unit q + (unit r + (unit u + n)))) ≡ unit ((p || q || r || u) || b)
+    go true q r u n b e = omega arith
+    go false true r u n b e = omega arith
+    go false false true u n b e = omega arith
+    go false false false true n b e = omega arith
+    go false false false false n b e = omega arith
+
+cnt-marks : (x : ℕ) (ps : List Pos) → min 1 (cnt x (keysOf ps)) ≡ unit (marks (λ p. eqb x (keyOf p)) ps)
+unfolding cnt keysOf marks hit
+cnt-marks x [] = omega arith
+cnt-marks x (p ∷ ps) = go (eqb x (keyOf p)) (cnt x (keysOf ps)) (marks (λ p. eqb x (keyOf p)) ps) (cnt-marks x ps)
+  where
+    go : (p : Bool) (n : ℕ) (b : Bool) → min 1 n ≡ unit b → min 1 (unit p + n) ≡ unit (p || b)
+    go true n b e = omega arith
+    go false n b e = omega arith
+
+pub same-vertices : (s : List ℕ) (nx ny nz l : ℕ) → Taken s nx ny nz l
+    → SameSet (flat keyOf (cells l (pos nx ny nz) (read (pos nx ny nz) l s))) (leafKeys l (pos nx ny nz) (read (pos nx ny nz) l s))
+same-vertices s nx ny nz l h x =
+    cnt-marks x _ ∙ ap unit (sym (vertices l (pos nx ny nz) (read (pos nx ny nz) l s) (h .graded) (λ p. eqb x (keyOf p)))) ∙ sym (cnt-names x _)

@@ -1,0 +1,4 @@
+pub mod Listing
+pub mod Leafwise
+pub mod Keys
+pub mod Storing
