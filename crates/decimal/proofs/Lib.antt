@@ -1,0 +1,4 @@
+-- Laws that the proofs of decimal share.
+pub mod Texts
+pub mod Decimals
+pub mod Counts
