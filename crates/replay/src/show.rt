@@ -27,7 +27,28 @@ pub fn answer(a: Answer) {
     end();
 }
 
+fn uniform(entries: &[u32]) -> bool {
+    let mut i: usize = 1;
+    while i < entries.len() {
+        if entries[i] != entries[0] {
+            return false;
+        }
+        i += 1;
+    }
+    true
+}
+
+// The entries; where all are the same, how many there are and the first.
 pub fn table(entries: &[u32]) {
+    let n = entries.len();
+    if n > 1 {
+        if uniform(entries) {
+            io::write_all(STDOUT_FILENO, b"all ");
+            number(n as u64);
+            word(entries[0]);
+            return end();
+        }
+    }
     let mut i: usize = 0;
     while i < entries.len() {
         word(entries[i]);

@@ -14,7 +14,7 @@ usage: bench [--small | --large] [--times N] [--write FILE]
   --small       inputs of up to some hundred thousand cells only
   --large       also tens of millions of cells (some 8 GB of memory)
   --times N     the least of N runs (5)
-  --write FILE  write the page of speeds there as well
+  --write FILE  put the table into this page, under its own heading
 ";
 
 struct Options {
@@ -57,10 +57,11 @@ fn main() -> ExitCode {
     for input in inputs::all(options.reach) {
         steps::on_input(&input, &mut table);
     }
-    let page = table.page(&machine::words());
-    println!("{page}");
+    let section = table.section(&machine::words());
+    println!("{section}");
     if let Some(file) = options.write {
-        if let Err(error) = std::fs::write(&file, page) {
+        let page = std::fs::read_to_string(&file).unwrap_or_else(|_| "# Speed\n\n".into());
+        if let Err(error) = std::fs::write(&file, table::replaced(&page, &section)) {
             eprintln!("{file}: {error}");
             return ExitCode::FAILURE;
         }

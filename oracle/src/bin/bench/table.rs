@@ -47,19 +47,29 @@ impl Table {
         self.rows.push(row);
     }
 
-    pub fn page(&self, machine: &str) -> String {
+    pub fn section(&self, machine: &str) -> String {
         format!(
-            "{HEAD}{HOW}\nMachine: {machine}. Least of {} runs.\n\n{COLUMNS}{}\n",
+            "{HEADING}{HEAD}{HOW}\nMachine: {machine}. Least of {} runs.\n\n{COLUMNS}{}\n",
             self.times,
             self.rows.join("\n")
         )
     }
 }
 
-const HEAD: &str = "# Speed
+/// The heading of the part of a page that is made here.
+const HEADING: &str = "## Beside the lifted Rust\n";
 
-Each step beside the lifted Rust, made by `oracle/bench --write docs/SPEED.md`. A figure, not a test.
+const HEAD: &str = "
+Each step beside the lifted Rust, made by `oracle/bench --write docs/SPEED.md`. Figures, not a test.
 ";
+
+/// A page with its part under our heading, up to the next one, made anew.
+pub fn replaced(page: &str, section: &str) -> String {
+    let start = page.find(HEADING).unwrap_or(page.len());
+    let own = page.get(start + HEADING.len()..).unwrap_or("");
+    let rest = own.find("\n## ").map_or("", |at| &own[at..]);
+    format!("{}\n\n{section}{rest}", page[..start].trim_end())
+}
 
 const HOW: &str = "
 - One run, one thread, the same inputs for both sides, turn by turn; release builds; CPU time of the thread.

@@ -33,8 +33,25 @@ fn refill<T: Filled>(table: &mut Lent<T>) {
     table.all_mut().fill(T::FILLED);
 }
 
-fn numbers<T: Filled>(table: &Lent<T>) -> Vec<u64> {
-    table.all().iter().map(|entry| (*entry).into()).collect()
+fn in_full<T: Filled>(table: &Lent<T>) -> String {
+    let numbers: Vec<u64> = table.all().iter().map(|entry| (*entry).into()).collect();
+    spaced(&numbers)
+}
+
+/// In full, or how many entries there are and the first, where all are the same.
+fn shown(table: &Lent<u32>) -> String {
+    match table.all() {
+        [first, rest @ ..] if !rest.is_empty() && rest.iter().all(|entry| entry == first) => {
+            format!("all {}", spaced(&[table.len() as u64, u64::from(*first)]))
+        }
+        _ => in_full(table),
+    }
+}
+
+/// How many entries are zero, of how many.
+fn zeros(table: &Lent<u64>) -> String {
+    let zeros = table.all().iter().filter(|entry| **entry == 0).count();
+    spaced(&[zeros as u64, table.len() as u64])
 }
 
 fn bytes_as_words(table: &Lent<u8>) -> impl Iterator<Item = u32> + '_ {
@@ -53,8 +70,8 @@ pub trait Record: Call {
     /// The values and the contents of the inputs.
     fn words(&self) -> Vec<u32>;
 
-    /// The tables that the program prints after the call.
-    fn tables(&self) -> Vec<Vec<u64>>;
+    /// The tables that the program prints after the call, a line each.
+    fn tables(&self) -> Vec<String>;
 
     fn line(outcome: &Self::Outcome) -> String;
 }
@@ -91,7 +108,7 @@ impl Record for PlanCall {
         plan_words(self)
     }
 
-    fn tables(&self) -> Vec<Vec<u64>> {
+    fn tables(&self) -> Vec<String> {
         Vec::new()
     }
 
@@ -138,8 +155,8 @@ impl Record for ComponentsCall {
         [self.input.points.all(), self.input.cells.all()].concat()
     }
 
-    fn tables(&self) -> Vec<Vec<u64>> {
-        vec![numbers(&self.numbers), numbers(&self.work)]
+    fn tables(&self) -> Vec<String> {
+        vec![shown(&self.numbers), shown(&self.work)]
     }
 
     fn line(answer: &Answer) -> String {
@@ -170,8 +187,8 @@ impl Record for OnePieceCall {
         [self.input.points.all(), self.input.cells.all()].concat()
     }
 
-    fn tables(&self) -> Vec<Vec<u64>> {
-        vec![numbers(&self.work)]
+    fn tables(&self) -> Vec<String> {
+        vec![shown(&self.work)]
     }
 
     fn line(answer: &Answer) -> String {
@@ -201,8 +218,8 @@ impl Record for RefineCall {
             .collect()
     }
 
-    fn tables(&self) -> Vec<Vec<u64>> {
-        vec![numbers(&self.split)]
+    fn tables(&self) -> Vec<String> {
+        vec![in_full(&self.split)]
     }
 
     fn line(answer: &Answer) -> String {
@@ -241,9 +258,9 @@ impl Record for GridCall {
             .collect()
     }
 
-    fn tables(&self) -> Vec<Vec<u64>> {
-        let results = [&self.cells, &self.triples, &self.points].map(numbers);
-        [results.to_vec(), vec![numbers(&self.work)]].concat()
+    fn tables(&self) -> Vec<String> {
+        let results = [&self.cells, &self.triples, &self.points].map(shown);
+        [results.to_vec(), vec![zeros(&self.work)]].concat()
     }
 
     fn line(answer: &Answer) -> String {
@@ -281,9 +298,9 @@ impl Record for RepresentativesCall {
             .collect()
     }
 
-    fn tables(&self) -> Vec<Vec<u64>> {
+    fn tables(&self) -> Vec<String> {
         [&self.numbers, &self.centroids, &self.work]
-            .map(numbers)
+            .map(shown)
             .to_vec()
     }
 
@@ -332,9 +349,9 @@ impl Record for KeepCall {
         words
     }
 
-    fn tables(&self) -> Vec<Vec<u64>> {
+    fn tables(&self) -> Vec<String> {
         [&self.kept_points, &self.kept_cells, &self.work]
-            .map(numbers)
+            .map(shown)
             .to_vec()
     }
 
@@ -372,8 +389,8 @@ impl Record for WriteCall {
         [self.input.points.all(), self.input.cells.all()].concat()
     }
 
-    fn tables(&self) -> Vec<Vec<u64>> {
-        vec![numbers(&self.file), numbers(&self.work)]
+    fn tables(&self) -> Vec<String> {
+        vec![in_full(&self.file), shown(&self.work)]
     }
 
     fn line(answer: &Answer) -> String {
@@ -410,10 +427,8 @@ impl Record for ReadCall {
         bytes_as_words(&self.file).collect()
     }
 
-    fn tables(&self) -> Vec<Vec<u64>> {
-        [&self.points, &self.cells, &self.work]
-            .map(numbers)
-            .to_vec()
+    fn tables(&self) -> Vec<String> {
+        [&self.points, &self.cells, &self.work].map(shown).to_vec()
     }
 
     fn line(answer: &Answer) -> String {

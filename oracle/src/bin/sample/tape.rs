@@ -41,8 +41,8 @@ impl Tape {
         self.calls += 1;
         self.words.extend(words);
         self.text += &R::line(&outcome);
-        for table in filled.tables() {
-            self.text += &spaced(&table);
+        for line in filled.tables() {
+            self.text += &line;
         }
         true
     }
