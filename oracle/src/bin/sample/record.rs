@@ -58,7 +58,7 @@ fn bytes_as_words(table: &Lent<u8>) -> impl Iterator<Item = u32> + '_ {
     table.all().iter().map(|byte| u32::from(*byte))
 }
 
-pub trait Record: Call {
+pub trait Record: Call<Outcome: Line> {
     /// The step's number on the tape.
     fn code(&self) -> u32;
 
@@ -72,17 +72,26 @@ pub trait Record: Call {
 
     /// The tables that the program prints after the call, a line each.
     fn tables(&self) -> Vec<String>;
-
-    fn line(outcome: &Self::Outcome) -> String;
 }
 
-fn answer_line(answer: &Answer) -> String {
-    spaced(&[
-        answer.number.into(),
-        answer.first,
-        answer.second,
-        answer.third,
-    ])
+/// What is answered by value, as the program prints it.
+pub trait Line {
+    fn line(&self) -> String;
+}
+
+impl Line for Answer {
+    fn line(&self) -> String {
+        spaced(&[self.number.into(), self.first, self.second, self.third])
+    }
+}
+
+impl Line for Planned {
+    fn line(&self) -> String {
+        let floats = self.origin.iter().chain([&self.half]).map(|x| x.to_bits());
+        let whole = self.dims.into_iter().chain([self.octants]);
+        let words = [self.number].into_iter().chain(floats).chain(whole);
+        spaced(&words.map(u64::from).collect::<Vec<_>>())
+    }
 }
 
 fn plan_words(plan: &PlanCall) -> Vec<u32> {
@@ -110,22 +119,6 @@ impl Record for PlanCall {
 
     fn tables(&self) -> Vec<String> {
         Vec::new()
-    }
-
-    fn line(planned: &Planned) -> String {
-        let floats = planned
-            .origin
-            .iter()
-            .chain([&planned.half])
-            .map(|x| x.to_bits());
-        let whole = planned.dims.into_iter().chain([planned.octants]);
-        let numbers: Vec<u64> = [planned.number]
-            .into_iter()
-            .chain(floats)
-            .chain(whole)
-            .map(u64::from)
-            .collect();
-        spaced(&numbers)
     }
 }
 
@@ -158,10 +151,6 @@ impl Record for ComponentsCall {
     fn tables(&self) -> Vec<String> {
         vec![shown(&self.numbers), shown(&self.work)]
     }
-
-    fn line(answer: &Answer) -> String {
-        answer_line(answer)
-    }
 }
 
 impl Record for OnePieceCall {
@@ -190,10 +179,6 @@ impl Record for OnePieceCall {
     fn tables(&self) -> Vec<String> {
         vec![shown(&self.work)]
     }
-
-    fn line(answer: &Answer) -> String {
-        answer_line(answer)
-    }
 }
 
 impl Record for RefineCall {
@@ -220,10 +205,6 @@ impl Record for RefineCall {
 
     fn tables(&self) -> Vec<String> {
         vec![in_full(&self.split)]
-    }
-
-    fn line(answer: &Answer) -> String {
-        answer_line(answer)
     }
 }
 
@@ -262,10 +243,6 @@ impl Record for GridCall {
         let results = [&self.cells, &self.triples, &self.points].map(shown);
         [results.to_vec(), vec![zeros(&self.work)]].concat()
     }
-
-    fn line(answer: &Answer) -> String {
-        answer_line(answer)
-    }
 }
 
 impl Record for RepresentativesCall {
@@ -302,10 +279,6 @@ impl Record for RepresentativesCall {
         [&self.numbers, &self.centroids, &self.work]
             .map(shown)
             .to_vec()
-    }
-
-    fn line(answer: &Answer) -> String {
-        answer_line(answer)
     }
 }
 
@@ -354,10 +327,6 @@ impl Record for KeepCall {
             .map(shown)
             .to_vec()
     }
-
-    fn line(answer: &Answer) -> String {
-        answer_line(answer)
-    }
 }
 
 impl Record for WriteCall {
@@ -392,10 +361,6 @@ impl Record for WriteCall {
     fn tables(&self) -> Vec<String> {
         vec![in_full(&self.file), shown(&self.work)]
     }
-
-    fn line(answer: &Answer) -> String {
-        answer_line(answer)
-    }
 }
 
 impl Record for ReadCall {
@@ -429,9 +394,5 @@ impl Record for ReadCall {
 
     fn tables(&self) -> Vec<String> {
         [&self.points, &self.cells, &self.work].map(shown).to_vec()
-    }
-
-    fn line(answer: &Answer) -> String {
-        answer_line(answer)
     }
 }

@@ -1,6 +1,6 @@
 //! The tape of calls, words of 32 bits, and the lines that its replay must print.
 
-use crate::record::Record;
+use crate::record::{Line, Record};
 use oracle::calls::Outcome;
 use std::collections::BTreeMap;
 use std::fmt;
@@ -40,7 +40,7 @@ impl Tape {
         *chosen += 1;
         self.calls += 1;
         self.words.extend(words);
-        self.text += &R::line(&outcome);
+        self.text += &outcome.line();
         for line in filled.tables() {
             self.text += &line;
         }
