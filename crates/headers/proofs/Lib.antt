@@ -1,0 +1,3 @@
+-- Laws that the proofs of headers share.
+pub mod Decimals
+pub mod Scanning
