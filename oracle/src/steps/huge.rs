@@ -179,6 +179,7 @@ fn mesh_files(sizes: &Sizes, report: &mut Report) {
     ];
     if sizes.largest {
         cases.push((0, MOST, Answer::refused(8)));
+        cases.push((1, MOST, Answer::short(1, MOST)));
     }
     for (points, cells, wanted) in cases {
         let Some(pages) = mesh_file(points, cells) else {
