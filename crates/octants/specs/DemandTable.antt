@@ -1,15 +1,16 @@
 -- Demand 3, of the tables. Assumes nothing.
 use mathlib.Core.Path.{_≡_, refl, ap, sym, _∙_, subst}
 use mathlib.Core.Bool.{false}
-use mathlib.Core.List.{List}
+use mathlib.Core.List.{List, _++_}
 use Prim.Native.Nat.{ℕ, zero, suc, _+_, _-_, _≤_, _<_}
-use lib.ListN.{getD}
+use lib.Dec.{eqb}
+use lib.ListN.{length, getD, List·getD-append}
 use native.Mathlib.Omega.{arith}
 use Rattle.octants.specs.Oct.{Pos, Tree, Inside, In, parent, Leaf, balanced, refined}
 use Rattle.octants.specs.Least.{parent-inside}
 use Rattle.octants.specs.Demand.{LeastRefinement, refined-least}
-use Rattle.octants.specs.Table.{depth, size, off, place, bit, read, table, refineOf}
-use Rattle.octants.specs.TableLaws.{place-in, length-levels, levels-at, table-is, read-table}
+use Rattle.octants.specs.Table.{depth, size, off, slot, place, bit, read, table, refineOf}
+use Rattle.octants.specs.TableLaws.{slot-lt, off-mono, place-in, length-levels, levels-at, table-is, read-table}
 
 abbrev pub Agree : ℕ → Pos → Tree → Tree → Type 0
 Agree l d t u = (m : ℕ) (x : Pos) → m ≤ l → In l d m x → t m x ≡ u m x
@@ -58,3 +59,12 @@ pub table-least : (d : Pos) (l : ℕ) (s : List ℕ) → LeastRefinement l d (re
 unfolding read
 table-least d l s =
     least-agree l d (refined l d (read d l s)) (read d l (refineOf d l s)) (refined-read d l s) (read d l s) (λ x. refl) (refined-least l d (read d l s))
+
+-- what stands past the octants of a table is not read
+pub front-agree : (d : Pos) (l : ℕ) (s rest : List ℕ) → length s ≡ off d l → Agree l d (read d l s) (read d l (s ++ rest))
+unfolding read
+front-agree d l s rest e zero x f p = refl
+front-agree d l s rest e (suc m) x f p =
+    let j : ℕ = l - suc m in
+    ap (λ (b : ℕ). eqb b 1)
+    (sym (List·getD-append s rest 0 (off d j + slot (depth d j) x) (omega (arith, off-mono d j l (slot (depth d j) x) (omega arith) (slot-lt (depth d j) x p)))))

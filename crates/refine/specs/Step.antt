@@ -1,0 +1,71 @@
+-- The step refine as document 01 has it: what is refused and why, what is answered, and what the split table holds after.
+-- C is the crossing table and o the split table, as lent.
+use mathlib.Core.Path.{_≡_}
+use mathlib.Core.Bool.{cond, not}
+use mathlib.Core.List.{List, [], _∷_, _++_}
+use Prim.Native.Nat.{ℕ}
+use lib.Dec.{eqb, ltb}
+use lib.Ieee.{Float}
+use lib.ListN.{length}
+use Rattle.lists.specs.Ladder.{Row, _when_, first, unless}
+use Rattle.lists.specs.Tables.{allAtMost, front, on}
+use Rattle.plan.specs.Plan.{planOf, planRows, onPlan}
+use Rattle.plan.specs.declared.Bounds.{Bounds}
+use Rattle.plan.specs.declared.Plan.{Plan}
+use Rattle.octants.specs.Oct.{Pos, pos}
+use Rattle.octants.specs.Table.{refineOf, total}
+use Rattle.refine.specs.declared.Refined.{Refined}
+use Rattle.refine.specs.declared.Refined.the-variants.{Done, Refused, Short}
+
+-- the refusals with their causes, the lowest number first: those of the plan, and where there is a plan, those of the two tables
+abbrev pub tableRows : Plan → List ℕ → List ℕ → List Row
+tableRows p C o =
+    5 when not (eqb (length C) (p .octants))
+    ∷ 6 when not (allAtMost 1 C)
+    ∷ 9 when ltb (length o) (p .octants)
+    ∷ []
+
+abbrev pub refineRows : Bounds → Float → ℕ → List ℕ → List ℕ → List Row
+refineRows b c levels C o = planRows b c levels ++ onPlan (planOf b c levels) (λ n. []) (λ p. tableRows p C o)
+
+-- those of the crossing table alone, for n octants
+unfoldable pub crossingRows : ℕ → List ℕ → List Row
+crossingRows n C = 5 when not (eqb (length C) n) ∷ 6 when not (allAtMost 1 C) ∷ []
+
+-- document 01's number and values of each answer
+abbrev pub numberOf : Refined → ℕ
+numberOf (Done ones) = 0
+numberOf (Refused number) = number
+numberOf (Short octants) = 9
+
+abbrev pub valuesOf : Refined → List ℕ
+valuesOf (Done ones) = ones ∷ []
+valuesOf (Refused number) = []
+valuesOf (Short octants) = octants ∷ []
+
+abbrev pub rootsOf : Plan → Pos
+rootsOf p = pos (p .nx) (p .ny) (p .nz)
+
+-- the split table of a crossing table: the raw refinement, balanced from the finest level up
+abbrev pub splitOf : Plan → List ℕ → List ℕ
+splitOf p C = refineOf (rootsOf p) (p .levels) C
+
+-- refused, short of room, or so many ones
+unfoldable pub answerFor : Plan → List ℕ → List ℕ → Refined
+answerFor p C o =
+    unless (first (crossingRows (p .octants) C)) Refused
+    (cond (ltb (length o) (p .octants)) (Short (p .octants)) (Done (total (splitOf p C))))
+
+unfoldable pub refinedOf : Bounds → Float → ℕ → List ℕ → List ℕ → Refined
+refinedOf b c levels C o = onPlan (planOf b c levels) Refused (λ p. answerFor p C o)
+
+-- the split table after: the N splits in front on an answer, else as lent
+abbrev pub splitFor : Plan → List ℕ → List ℕ → List ℕ
+splitFor p C o = on (0 ∷ []) (numberOf (answerFor p C o)) (front (p .octants) (splitOf p C) o) o
+
+abbrev pub splitAfter : Bounds → Float → ℕ → List ℕ → List ℕ → List ℕ
+splitAfter b c levels C o = onPlan (planOf b c levels) (λ n. o) (λ p. splitFor p C o)
+
+pub record RefineDone (b : Bounds) (c : Float) (levels : ℕ) (C o : List ℕ) (r : Refined) (o′ : List ℕ) : Type 0 where
+  pub answer : r ≡ refinedOf b c levels C o
+  pub split : o′ ≡ splitAfter b c levels C o
