@@ -1,0 +1,5 @@
+-- Laws that the proofs of compact share.
+pub mod Using
+pub mod Weighing
+pub mod Placing
+pub mod Keeping
