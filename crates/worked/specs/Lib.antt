@@ -1,2 +1,3 @@
 -- The worked numbers of document 01.
+pub mod Octree
 pub mod Worked

@@ -2,13 +2,17 @@
 use mathlib.Core.Path.{_≡_, refl}
 use mathlib.Core.List.{List, [], _∷_}
 use Prim.Native.Nat.{ℕ}
+use lib.ListN.{length}
 use lib.Ieee.{Float, add, sub, mul, div, neg, lt, ofInt, ofBits}
 use Rattle.float32.specs.Operations.{f32}
 use Rattle.float32.specs.Ceiling.{ceilTo}
 use Rattle.plan.specs.Plan.{allFinite, scaleOf, dimsOf, fitsOn, axisOf, octantsOf, straight, straightBox, counted, axesOf, planOf}
+use Rattle.octants.specs.Oct.{Pos, pos}
+use Rattle.grid.specs.Grid.{gridCells, gridVertices}
 use Rattle.plan.specs.declared.Bounds.{Bounds}
 use Rattle.plan.specs.declared.Planned.{Planned}
 use Rattle.plan.specs.declared.Planned.the-variants.{Ready, Refused}
+use Rattle.worked.specs.Octree.{unsplit, octree-six}
 
 -- every entry of a list has the property: a proof for each
 data Every {A : Type 0} (P : A → Type 0) : List A → Type 0 where
@@ -28,9 +32,12 @@ plan o half n levels octants =
 data Row : Type 0 where
   -- the plan of the cube from 0 to x, with the cell size c and these levels
   planned : (x c levels : ℕ) → Planned → Row
+  -- the grid of these levels over d, with a split table: how many cells and vertices it has
+  gridded : (levels : ℕ) (d : Pos) (split : List ℕ) (cells vertices : ℕ) → Row
 
 unfoldable Says : Row → Type 0
 Says (planned x c levels answer) = planOf (cube x) (f32 c) levels ≡ answer
+Says (gridded levels d split cells vertices) = (length (gridCells levels d split) ≡ cells) × (length (gridVertices levels d split) ≡ vertices)
 
 abbrev one : ℕ
 one = 0x3f80_0000
@@ -46,6 +53,8 @@ table =
     ∷ planned quarter one 0 (plan 0xc000_0000 0x3f00_0000 9 0 0)
     -- box all 0, c 1, L 1: dims 6, origin -3, half 0.25, N 216
     ∷ planned 0 one 1 (plan 0xc040_0000 quarter 6 1 216)
+    -- no crossing: 2,592 cells, 559 vertices
+    ∷ gridded 1 (pos 6 6 6) unsplit 2592 559
     -- c of 0, -0, NaN, infinity: refusal 1
     ∷ planned 0 0 0 (Refused 1)
     ∷ planned 0 0x8000_0000 0 (Refused 1)
@@ -55,4 +64,4 @@ table =
 
 worked : Every Says table
 unfolding Says table ofBits add sub mul div neg lt ofInt ceilTo allFinite scaleOf dimsOf fitsOn axisOf octantsOf straight straightBox counted axesOf planOf
-worked = row refl (row refl (row refl (row refl (row refl (row refl (row refl done))))))
+worked = row refl (row refl (row refl (row octree-six (row refl (row refl (row refl (row refl done)))))))

@@ -1,0 +1,73 @@
+-- The octree of box all 0, c 1, L 1 with no root split: its cells and vertices. The cells are counted by computation; the distinct keys of their vertices
+-- are those of nine points a leaf (same-vertices), which are sorted and counted by computation.
+use mathlib.Core.Path.{_≡_, refl, ap, sym, _∙_, fun-ext}
+use mathlib.Core.Bool.{Bool, true, false}
+use mathlib.Core.List.{List, [], _∷_, map}
+use Prim.Native.Nat.{ℕ, zero, suc, _+_, _-_}
+use native.Mathlib.Omega.{arith}
+use lib.Dec.{eqb}
+use lib.ListN.{length, getD, replicate}
+use Rattle.octants.specs.Oct.{Axis, ax, ay, az, Pos, pos, Tree, any, Closed}
+use Rattle.octants.specs.Near.{clash}
+use Rattle.octants.specs.Table.{off, slot, depth, read}
+use Rattle.cells.specs.Cells.{cells, leafCells, boxDown, down, below, descent, side, finer, over, fan, halves, cellsTo, flat}
+use Rattle.lists.proofs.Lent.{zeros-at}
+use Rattle.numbering.specs.Keys.{keyOf, tripleOf}
+use Rattle.numbering.specs.Distinct.{insert, distinctSorted}
+use Rattle.numbering.proofs.Members.{same-distinct}
+use Rattle.sides.specs.Told.{Taken}
+use Rattle.leaf_cells.specs.Listed.{keysOf, leafKeys}
+use Rattle.leaf_cells.proofs.Leafwise.{same-vertices}
+use Rattle.grid.specs.Grid.{gridCells, gridVertices, vertexKeys}
+
+abbrev six : Pos
+six = pos 6 6 6
+
+-- no root is split
+abbrev pub unsplit : List ℕ
+unsplit = replicate 216 0
+
+abbrev whole : Tree
+whole m x = false
+
+reads-whole : read six 1 unsplit ≡ whole
+unfolding read
+reads-whole = fun-ext (λ m. fun-ext (go m))
+  where
+    go : (m : ℕ) (x : Pos) → read six 1 unsplit m x ≡ false
+    go zero x = refl
+    go (suc m) x = ap (λ (n : ℕ). eqb n 1) (zeros-at 216 (off six (1 - suc m) + slot (depth six (1 - suc m)) x))
+
+taken : Taken unsplit 6 6 6 1
+unfolding off
+taken = record {
+  dims = record { x-some = omega arith; y-some = omega arith; z-some = omega arith; x-few = omega arith; y-few = omega arith; z-few = omega arith };
+  some = omega arith;
+  few = omega arith;
+  whole = refl;
+  graded = record {
+    finest = λ x. ap (λ (t : Tree). t 0 x) reads-whole;
+    push = λ m x y h p q r e. clash e (ap (λ (t : Tree). t m y) reads-whole);
+  };
+}
+
+whole-cells : length (cells 1 six whole) ≡ 2592
+unfolding any leafCells boxDown down below descent side finer over fan halves cellsTo
+whole-cells = refl
+
+whole-keys : length (distinctSorted (leafKeys 1 six whole)) ≡ 559
+unfolding boxDown down below keysOf keyOf insert distinctSorted
+whole-keys = refl
+
+length-map : (f : ℕ → Pos) (l : List ℕ) → length (map f l) ≡ length l
+length-map f [] = refl
+length-map f (x ∷ l) = ap suc (length-map f l)
+
+pub octree-six : (length (gridCells 1 six unsplit) ≡ 2592) × (length (gridVertices 1 six unsplit) ≡ 559)
+unfolding gridCells gridVertices vertexKeys
+octree-six = (
+  ap (λ (t : Tree). length (cells 1 six t)) reads-whole ∙ whole-cells,
+  length-map tripleOf (distinctSorted (flat keyOf (cells 1 six (read six 1 unsplit))))
+      ∙ ap length (sym (same-distinct (flat keyOf (cells 1 six (read six 1 unsplit))) (leafKeys 1 six (read six 1 unsplit)) (same-vertices unsplit 6 6 6 1 taken)))
+      ∙ ap (λ (t : Tree). length (distinctSorted (leafKeys 1 six t))) reads-whole ∙ whole-keys,
+)
