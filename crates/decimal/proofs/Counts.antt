@@ -152,8 +152,8 @@ pub record CountHere (b : List ℕ) (at v next : ℕ) : Type 0 where
   pub long : next ≡ at + length (digits v)
   pub bytes : drop at b ≡ digits v ++ drop next b
 
-no-stop : (k v next : ℕ) → _≡_ {A = Counted} (Stopped k) (Read v next) → ⊥
-no-stop k v next d = let z : _≡_ {A = ℕ} 0 1 = cc in omega arith
+pub never-read : (k v next : ℕ) → _≡_ {A = Counted} (Stopped k) (Read v next) → ⊥
+never-read k v next d = let z : _≡_ {A = ℕ} 0 1 = cc in omega arith
 
 pub count-found : (b : List ℕ) (at v next : ℕ) → countAt b at ≡ Read v next → CountHere b at v next
 count-found b at v next e = by-tests (ltOr at (length b)) (ltOr (getD b at 0) 48) (ltOr 57 (getD b at 0)) (eqOr (getD b at 0) 48)
@@ -182,9 +182,9 @@ count-found b at v next e = by-tests (ltOr at (length b)) (ltOr (getD b at 0) 48
 
     by-tests : (at < length b) ⊎ (length b ≤ at) → (getD b at 0 < 48) ⊎ (48 ≤ getD b at 0) → (57 < getD b at 0) ⊎ (getD b at 0 ≤ 57)
         → (getD b at 0 ≡ 48) ⊎ (getD b at 0 ≢ 48) → CountHere b at v next
-    by-tests (inr l) f g n = absurd (no-stop 11 v next (count-ends b at l ∙ e))
-    by-tests (inl l) (inl f) g n = absurd (no-stop 14 v next (count-off b at (getD b at 0) l refl (not-low (getD b at 0) f) ∙ e))
-    by-tests (inl l) (inr f) (inl g) n = absurd (no-stop 14 v next (count-off b at (getD b at 0) l refl (not-high (getD b at 0) g) ∙ e))
+    by-tests (inr l) f g n = absurd (never-read 11 v next (count-ends b at l ∙ e))
+    by-tests (inl l) (inl f) g n = absurd (never-read 14 v next (count-off b at (getD b at 0) l refl (not-low (getD b at 0) f) ∙ e))
+    by-tests (inl l) (inr f) (inl g) n = absurd (never-read 14 v next (count-off b at (getD b at 0) l refl (not-high (getD b at 0) g) ∙ e))
     by-tests (inl l) (inr f) (inr g) (inl n) = zero-here l n (count-zero b at (getD b at 0) l refl n ∙ e)
     by-tests (inl l) (inr f) (inr g) (inr n) =
         more-here l f g n (more-found 9 1 b (at + 1) (getD b at 0 - 48) v next refl (omega arith) (omega (arith, pos n)) (sym (count-more b at (getD b at 0) l refl f g n) ∙ e))

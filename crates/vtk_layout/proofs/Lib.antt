@@ -1,0 +1,4 @@
+-- Laws that the proofs of vtk_layout share.
+pub mod Parts
+pub mod Sound
+pub mod There

@@ -1,0 +1,28 @@
+use mathlib.Core.Path.{_≡_, refl, sym, ap, _∙_}
+use native.Mathlib.Omega.{arith}
+use Prim.Native.Nat.{ℕ, _+_, _*_}
+use denote.Ref.{now}
+use borrow.Author.Needs.{needs}
+use Rattle.decimal.proofs.Texts.{onwards, halted}
+use Rattle.decimal.proofs.Counts.{count-onwards, count-halted}
+use Rattle.vtk_layout.proofs.Parts.{title-on, title-feed, title-ends, title-last, block-ends, block-there, line-in, section-in, counted-small, head-small, past, not-past}
+use Rattle.vtk_layout.specs.Layout.{feed, space, versionLine, datasetLines, floatLine, cellsWord, typesWord, dataWord, scalarLines, titleAt, blockAt, lineAt, sectionAt, countedAt, headOf, endAt, numbersOn, typesOn, cellsOn, pointsOn, locatedOf}
+use Rattle.vtk_layout.proofs.block.Statement.{statement}
+use Rattle.vtk_layout.proofs.block.Tie as tie
+use Rattle.vtk_layout.proofs.block.Reads as reads
+use Rattle.vtk_layout.proofs.block.Lts as lts
+
+returns : tie.Need-returns
+returns c = block-ends (c .before .args .size) (c .before .args .file .now) (c .before .args .at) (omega arith)
+
+sub-if2 : tie.Need-sub-if2
+sub-if2 c = search needs
+
+returns-2 : tie.Need-returns-2
+returns-2 c = block-ends (c .before .before .args .size) (c .before .before .args .file .now) (c .before .before .args .at) (omega arith)
+
+returns-3 : tie.Need-returns-3
+returns-3 c = sym (block-there (c .before .before .args .size) (c .before .before .args .file .now) (c .before .before .args .at) (omega arith))
+
+pub block-spec : {M : Type 1} → statement M
+block-spec = tie.close (tie.spec returns sub-if2 returns-2 returns-3)
