@@ -90,30 +90,31 @@ pow-join a (suc b) =
     rw e (omega (arith, f, two-pow-succ (a + b), pow-join a b))
 
 module _ (s : List ℕ) (nx ny nz l : ℕ) (h : Taken s nx ny nz l) where
-  pub placed : (z : ℕ) → IsLeaf l (pos nx ny nz) (read (pos nx ny nz) l s) (levelIn z) (placeIn z) → Placed z
-  placed z leaf = record { few = omega (arith, leaf .fits, h .few); within = go }
+  -- a leaf ends within 2,048 finest octants
+  pub along-few : (m : ℕ) (x : Pos) → IsLeaf l (pos nx ny nz) (read (pos nx ny nz) l s) m x → (a : Axis) → (x a + 1) * 2 ^ m ≤ 2048
+  along-few m x leaf = go
     where
-      m : ℕ
-      m = levelIn z
-
       joined : 2 ^ (l - m) * 2 ^ m ≡ 2 ^ l
       joined = let e : l - m + m ≡ l = omega (arith, leaf .fits) in pow-join (l - m) m ∙ ap (λ (k : ℕ). 2 ^ k) e
 
-      along : (i n : ℕ) → i < n * 2 ^ (l - m) → n ≤ 64 → i * 2 ^ m ≤ 2048
+      along : (i n : ℕ) → i < n * 2 ^ (l - m) → n ≤ 64 → (i + 1) * 2 ^ m ≤ 2048
       along i n p q =
-          let a : i ≤ n * 2 ^ (l - m) = omega arith in
+          let a : i + 1 ≤ n * 2 ^ (l - m) = omega arith in
           let r : 2 ^ m ≤ 2 ^ m = omega arith in
-          let b : i * 2 ^ m ≤ n * 2 ^ (l - m) * 2 ^ m = mul-le-mul a r in
+          let b : (i + 1) * 2 ^ m ≤ n * 2 ^ (l - m) * 2 ^ m = mul-le-mul a r in
           let c : n * 2 ^ (l - m) * 2 ^ m ≡ n * (2 ^ (l - m) * 2 ^ m) = omega arith in
           let d : 2 ^ l ≤ 32 = pow-mono (h .few) in
           let f : n * 2 ^ l ≤ 64 * 32 = mul-le-mul q d in
           let g : n * (2 ^ (l - m) * 2 ^ m) ≡ n * 2 ^ l = ap (λ (k : ℕ). n * k) joined in
           omega arith
 
-      go : (a : Axis) → placeIn z a * 2 ^ levelIn z ≤ 2048
-      go ax = along (placeIn z ax) nx (leaf .inside ax) (h .dims .x-few)
-      go ay = along (placeIn z ay) ny (leaf .inside ay) (h .dims .y-few)
-      go az = along (placeIn z az) nz (leaf .inside az) (h .dims .z-few)
+      go : (a : Axis) → (x a + 1) * 2 ^ m ≤ 2048
+      go ax = along (x ax) nx (leaf .inside ax) (h .dims .x-few)
+      go ay = along (x ay) ny (leaf .inside ay) (h .dims .y-few)
+      go az = along (x az) nz (leaf .inside az) (h .dims .z-few)
+
+  pub placed : (z : ℕ) → IsLeaf l (pos nx ny nz) (read (pos nx ny nz) l s) (levelIn z) (placeIn z) → Placed z
+  placed z leaf = record { few = omega (arith, leaf .fits, h .few); within = λ a. omega (arith, along-few (levelIn z) (placeIn z) leaf a) }
 
   pub all-placed : (w : List ℕ) (list leaves : ℕ) → Standing s nx ny nz l w list leaves → AllPlaced w list leaves
   all-placed w list leaves k j p = placed (getD w (list + j) 0) (listed s nx ny nz l h w list leaves k j p)

@@ -1,4 +1,5 @@
 pub mod Listing
 pub mod Leafwise
 pub mod Keys
+pub mod Bounds
 pub mod Storing

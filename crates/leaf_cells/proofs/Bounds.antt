@@ -1,0 +1,125 @@
+-- Every vertex of a grid has coordinates that fit its key. Assumes nothing.
+use mathlib.Core.Path.{_≡_, refl, sym, ap, _∙_, subst}
+use mathlib.Core.Bool.{Bool, true, false, _||_}
+use mathlib.Core.List.{List, [], _∷_, _++_}
+use mathlib.Core.Logic.{_⊎_, inl, inr, ⊎-elim}
+use Prim.Native.Nat.{ℕ, zero, suc, _+_, _-_, _*_, _/_, _^_, _≤_, _<_}
+use native.Mathlib.Omega.{arith}
+use native.Mathlib.Nat.{not-suc-le-zero, le-of-suc-le-suc}
+use lib.Dec.{leb}
+use lib.ListN.{length, getD}
+use borrow.Author.Tests.{leb-true, le-leb, lt-leb}
+use Rattle.octants.specs.Oct.{Axis, ax, ay, az, Pos, pos, Tree, Inside, width}
+use Rattle.octants.specs.Near.{or-cases, or-left, or-right, bool-cases, clash}
+use Rattle.octants.specs.Table.{read}
+use Rattle.cells.specs.Cells.{Cell, corner, centre, two, boxDown, overLeaves, cells}
+use Rattle.cells.specs.LeafSome.{IsLeaf, leaves-some, box-some}
+use Rattle.cells.specs.Vertices.{leafPoints, names, marks, vertices}
+use Rattle.lists.proofs.Cases.{ltOr}
+use Rattle.numbering.specs.Keys.{keyOf, Packs}
+use Rattle.numbering.proofs.Packing.{key-small}
+use Rattle.sides.specs.Told.{Taken}
+use Rattle.leaf_cells.specs.Listed.{keysOf, leafKeys}
+use Rattle.leaf_cells.proofs.Keys.{along-few}
+
+-- a coordinate does not fit its field
+abbrev pub far : Pos → Bool
+far p = leb 8192 (p ax) || leb 8192 (p ay) || leb 8192 (p az)
+
+pub near-packs : (p : Pos) → far p ≡ false → Packs p
+near-packs p e a = go a
+  where
+    small : (n : ℕ) → leb 8192 n ≡ false → n < 8192
+    small n q = ⊎-elim (λ h. h) (λ h. clash (le-leb 8192 n h) q) (ltOr n 8192)
+
+    none : (u v w : Bool) → u || v || w ≡ false → (u ≡ false) × (v ≡ false) × (w ≡ false)
+    none true v w q = clash refl q
+    none false true w q = clash refl q
+    none false false w q = (refl, refl, q)
+
+    go : (a : Axis) → p a < 8192
+    go ax = small (p ax) (none (leb 8192 (p ax)) (leb 8192 (p ay)) (leb 8192 (p az)) e .0)
+    go ay = small (p ay) (none (leb 8192 (p ax)) (leb 8192 (p ay)) (leb 8192 (p az)) e .1)
+    go az = small (p az) (none (leb 8192 (p ax)) (leb 8192 (p ay)) (leb 8192 (p az)) e .2)
+
+far-append : (a b : List Pos) → marks far (a ++ b) ≡ marks far a || marks far b
+unfolding marks
+far-append [] b = refl
+far-append (p ∷ a) b = ap (λ (r : Bool). far p || r) (far-append a b) ∙ go (far p) (marks far a) (marks far b)
+  where
+    go : (u v w : Bool) → u || (v || w) ≡ u || v || w
+    go true v w = refl
+    go false v w = refl
+
+neither : (u v : Bool) → u || v ≡ false → (u ≡ false) × (v ≡ false)
+neither true v k = clash refl k
+neither false v k = (refl, k)
+
+module _ (s : List ℕ) (nx ny nz l : ℕ) (h : Taken s nx ny nz l) where
+  abbrev d : Pos
+  d = pos nx ny nz
+
+  abbrev t : Tree
+  t = read d l s
+
+  -- along an axis: a leaf ends within 4,096 units
+  end-few : (m : ℕ) (x : Pos) → IsLeaf l d t m x → (a : Axis) → (x a + 1) * width m ≤ 4096
+  end-few m x leaf a = twice (x a + 1) (2 ^ m) (along-few s nx ny nz l h m x leaf a)
+    where
+      twice : (i n : ℕ) → i * n ≤ 2048 → i * (2 * n) ≤ 4096
+      twice i n q = omega arith
+
+  not-far : (p : Pos) → ((a : Axis) → p a ≤ 4096) → far p ≡ true → ⊥
+  not-far p q e = go (or-cases (leb 8192 (p ax) || leb 8192 (p ay)) (leb 8192 (p az)) e)
+    where
+      at : (a : Axis) → leb 8192 (p a) ≡ true → ⊥
+      at a k = omega (arith, leb-true 8192 (p a) k, q a)
+
+      go : (leb 8192 (p ax) || leb 8192 (p ay) ≡ true) ⊎ (leb 8192 (p az) ≡ true) → ⊥
+      go (inl k) = ⊎-elim (at ax) (at ay) (or-cases (leb 8192 (p ax)) (leb 8192 (p ay)) k)
+      go (inr k) = at az k
+
+  corner-few : (m : ℕ) (x o : Pos) → IsLeaf l d t m x → Inside two o → (a : Axis) → corner m x o a ≤ 4096
+  corner-few m x o leaf i a = go (o a) (small i a)
+    where
+      small : Inside two o → (a : Axis) → o a < 2
+      small i ax = i ax
+      small i ay = i ay
+      small i az = i az
+
+      go : (e : ℕ) → e < 2 → (x a + e) * width m ≤ 4096
+      go zero p = omega (arith, end-few m x leaf a)
+      go (suc zero) p = end-few m x leaf a
+      go (suc (suc e)) p = absurd (omega arith)
+
+  centre-few : (m : ℕ) (x : Pos) → IsLeaf l d t m x → (a : Axis) → centre m x a ≤ 4096
+  centre-few m x leaf a = omega (arith, end-few m x leaf a)
+
+  leaf-near : (m : ℕ) (x : Pos) → IsLeaf l d t m x → marks far (leafPoints m x) ≡ true → ⊥
+  unfolding marks
+  leaf-near m x leaf e = ⊎-elim
+      (λ k. not-far (centre m x) (centre-few m x leaf) k)
+      (λ k. let r = box-some (marks far) refl far-append two (λ o. corner m x o ∷ []) k in
+      not-far (corner m x (r .0)) (corner-few m x (r .0) leaf (r .1)) (⊎-elim (λ q. q) (λ q. clash q refl) (or-cases (far (corner m x (r .0))) false (r .2))))
+      (or-cases (far (centre m x)) (marks far (boxDown two (λ o. corner m x o ∷ []))) e)
+
+  points-near : marks far (overLeaves l d t leafPoints) ≡ false
+  unfolding marks
+  points-near = ⊎-elim
+      (λ e. let r = leaves-some (marks far) refl far-append l d t leafPoints (h .graded .finest) e in absurd (leaf-near (r .0) (r .1) (r .2) (r .3)))
+      (λ e. e)
+      (bool-cases (marks far (overLeaves l d t leafPoints)))
+
+  -- no vertex of a cell has a coordinate that does not fit
+  pub cells-near : names far (cells l d t) ≡ false
+  cells-near = vertices l d t (h .graded) far ∙ points-near
+
+  keys-under : (ps : List Pos) → marks far ps ≡ false → (j : ℕ) → j < length (keysOf ps) → getD (keysOf ps) j 0 < 549755813888
+  unfolding marks keysOf
+  keys-under [] e j p = absurd (not-suc-le-zero p)
+  keys-under (q ∷ ps) e zero p = key-small q (near-packs q (neither (far q) (marks far ps) e .0))
+  keys-under (q ∷ ps) e (suc j) p = keys-under ps (neither (far q) (marks far ps) e .1) j (le-of-suc-le-suc p)
+
+  -- every key of a leaf's vertices is below 2 ^ 39
+  pub keys-small : (j : ℕ) → j < length (leafKeys l d t) → getD (leafKeys l d t) j 0 < 549755813888
+  keys-small = keys-under (overLeaves l d t leafPoints) points-near
