@@ -1,2 +1,5 @@
 -- Laws that the proofs of grid share.
 pub mod Outcomes
+pub mod Vertices
+pub mod Octrees
+pub mod Meaning

@@ -1,3 +1,4 @@
 -- The definitions that the contracts of grid cite.
 pub mod Grid
 pub mod Step
+pub mod Octree

@@ -124,3 +124,4 @@ pub record Planful (p : Plan) : Type 0 where
   pub roots-few : 1 ≤ p .levels → (p .nx ≤ 64) × (p .ny ≤ 64) × (p .nz ≤ 64)
   pub levels-few : p .levels ≤ 5
   pub octants-are : p .octants ≡ off (dimsOf p) (p .levels)
+  pub octants-few : p .octants ≤ 1048576

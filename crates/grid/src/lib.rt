@@ -4,6 +4,9 @@ ghost use Prim.Native.Nat.{_*_, _<_, _≤_};
 ghost use mathlib.Core.List.{[]};
 ghost use Rattle.lists.specs.Ladder.{first};
 ghost use Rattle.grid.specs.Step.{lacksCells, lacksVertices, splitRows, Planful, Filled};
+ghost use Rattle.grid.specs.Octree.{keyTable, KeysFit};
+ghost use Rattle.lattice.specs.Storing.{tripleAt, pointAt};
+ghost use lib.Seq.{sets};
 use plan::Plan;
 
 // The outcome of `grid`: how many cells and vertices there are; refused, with document 01's number; no room or work for so many cells;
@@ -88,4 +91,26 @@ fn lattice_grid(
     let most = 3 * vertices;
     lattice::store_vertices(&mut triples[..most], &mut points[..most], p);
     Gridded::Done(many as u64, vertices as u64)
+}
+
+// The first v keys as triples and as points.
+fn store_vertices(keys: &[u64], v: usize, triples: &mut [u32], points: &mut [u32], p: Plan)
+    requires { ⌜ KeysFit (now keys) v (now triples) (now points) ⌝ }
+    ensures { λ _. ⌜ (now (triples .exit) ≡ sets (now (triples .entry)) 0 (keyTable tripleAt v (now (keys .entry)))) × (now (points .exit) ≡ sets (now (points .entry)) 0 (keyTable (pointAt p) v (now (keys .entry)))) ⌝ }
+{
+    let mut here: usize = 0;
+    let mut i: usize = 0;
+    while i < v {
+        let key = keys[i];
+        let x = (key / 67_108_864) as u32;
+        let y = (key / 8_192 % 8_192) as u32;
+        let z = (key % 8_192) as u32;
+        let px = plan::place(p.ox, p.half, x);
+        let py = plan::place(p.oy, p.half, y);
+        let pz = plan::place(p.oz, p.half, z);
+        lists::store3(triples, here, x, y, z);
+        lists::store3(points, here, px, py, pz);
+        here += 3;
+        i += 1;
+    }
 }

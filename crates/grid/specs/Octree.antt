@@ -1,0 +1,42 @@
+-- What the parts of the code promise for an octree.
+use mathlib.Core.Path.{_≡_}
+use mathlib.Core.List.{List, [], _∷_}
+use Prim.Native.Nat.{ℕ, _*_, _≤_, _<_}
+use lib.ListN.{length, getD, take, drop}
+use Rattle.lists.specs.Runs.{run}
+use Rattle.octants.specs.Oct.{Axis, ax, ay, az, pos}
+use Rattle.octants.specs.Table.{read}
+use Rattle.numbering.specs.Keys.{tripleOf}
+use Rattle.numbering.specs.Distinct.{Lookup}
+use Rattle.sides.specs.Told.{Taken}
+use Rattle.leaves.specs.Leaves.{leafList}
+use Rattle.grid.specs.Grid.{vertexKeys}
+
+-- three entries of a key's triple
+unfoldable pub threeOf : (Axis → ℕ → ℕ) → ℕ → List ℕ
+threeOf g k = g ax (tripleOf k ax) ∷ g ay (tripleOf k ay) ∷ g az (tripleOf k az) ∷ []
+
+-- those of the first v keys
+abbrev pub keyTable : (Axis → ℕ → ℕ) → ℕ → List ℕ → List ℕ
+keyTable g v w = run v (λ i. threeOf g (getD w i 0)) 0
+
+-- v keys, and room for their vertices
+pub record KeysFit (w : List ℕ) (v : ℕ) (triples points : List ℕ) : Type 0 where
+  pub there : v ≤ length w
+  pub small : (i : ℕ) → i < v → getD w i 0 < 549755813888
+  pub triple-room : 3 * v ≤ length triples
+  pub point-room : 3 * v ≤ length points
+
+-- a split table whose grid is to be numbered, with so many leaves, and work for 10 entries a leaf
+pub record Numberable (s : List ℕ) (nx ny nz l n : ℕ) (w : List ℕ) : Type 0 where
+  pub taken : Taken s nx ny nz l
+  pub octants : length s ≤ 1048576
+  pub leaves : n ≡ length (leafList l (pos nx ny nz) (read (pos nx ny nz) l s))
+  pub room : 10 * n ≤ length w
+
+-- the work once the vertices are numbered: their keys in front, and the list of leaves behind the room for nine keys a leaf
+pub record Ready (s : List ℕ) (nx ny nz l n : ℕ) (w : List ℕ) (v : ℕ) : Type 0 where
+  pub lookup : Lookup w v
+  pub keys : take v w ≡ vertexKeys l (pos nx ny nz) s
+  pub small : (i : ℕ) → i < v → getD w i 0 < 549755813888
+  pub list : take n (drop (9 * n) w) ≡ leafList l (pos nx ny nz) (read (pos nx ny nz) l s)
