@@ -2,4 +2,5 @@
 pub mod Outcomes
 pub mod Vertices
 pub mod Octrees
+pub mod Steps
 pub mod Meaning

@@ -22,6 +22,26 @@ use Rattle.grid.specs.Grid.{gridCells, gridVertices, vertexKeys, numberA
 use Rattle.grid.specs.Step.{cellCount, vertexCount}
 use Rattle.grid.specs.Octree.{keyTable}
 use Rattle.grid.proofs.Vertices.{spread-keys}
+use mathlib.Core.Path.{subst₂}
+use mathlib.Core.Bool.{Bool, true}
+use Prim.Native.Nat.{_%_}
+use borrow.Author.Tests.{lt-ltb}
+use lib.Dec.{ltb}
+use lib.ListN.{replicate, length-replicate}
+use lib.Seq.{getD-take}
+use Rattle.lists.specs.Tables.{allBelow}
+use Rattle.lists.specs.Runs.{run}
+use Rattle.lists.proofs.Rows.{and-left, and-right}
+use Rattle.lists.proofs.Lent.{below-at}
+use Rattle.lists.proofs.Counted.{cnt-at, cnt-find}
+use Rattle.lists.proofs.Running.{length-run, sum-same, sum-flat}
+use Rattle.numbering.proofs.Members.{members, distinct-short}
+use Rattle.leaves.specs.Leaves.{leafList, alone}
+use Rattle.leaves.proofs.Lines.{leaves-bound}
+use Rattle.leaf_cells.specs.Listed.{levelIn, Placed, nineKeys, keysIn, keysFrom, Standing}
+use Rattle.leaf_cells.proofs.Leafwise.{keys-by, same-vertices}
+use Rattle.leaf_cells.proofs.Keys.{small, keys-are, keys-nine, all-placed}
+use Rattle.grid.specs.Octree.{Numberable, Ready}
 
 -- ---- few leaves
 
@@ -118,3 +138,130 @@ module _ (p : Plan) (s : List ℕ) (h : 1 ≤ p .levels) where
     pub octree-points : keyTable (pointAt p) v w ≡ pointTable p s
     unfolding pointTable
     octree-points = spread-table (pointAt p)
+
+-- ---- every key is small
+
+abbrev most : ℕ
+most = 549755813888
+
+below-both : (n : ℕ) (a b : List ℕ) → allBelow n a ≡ true → allBelow n b ≡ true → allBelow n (a ++ b) ≡ true
+unfolding allBelow
+below-both n [] b p q = q
+below-both n (x ∷ a) b p q =
+    rw (and-left (ltb x n) (allBelow n a) p) (below-both n a b (and-right (ltb x n) (allBelow n a) p) q)
+
+below-run : (n : ℕ) (f : ℕ → List ℕ) (m i : ℕ) → ((j : ℕ) → i ≤ j → j < i + m → allBelow n (f j) ≡ true) → allBelow n (run m f i) ≡ true
+unfolding run allBelow
+below-run n f zero i h = refl
+below-run n f (suc m) i h =
+    below-both n (f i) (run m f (suc i)) (h i (omega arith) (omega arith)) (below-run n f m (suc i) (λ j a b. h j (omega arith) (omega arith)))
+
+nine-below : (k u v w : ℕ) → k + 2 * v + 2 * w + 2 * u < most → k + u + v + w < most → allBelow most (nineKeys k u v w) ≡ true
+unfolding nineKeys allBelow
+nine-below k u v w h g =
+    rw (
+      lt-ltb (k + u + v + w) most g,
+      lt-ltb (k + 2 * v + 2 * w + 2 * u) most h,
+      lt-ltb (k + 2 * v + 2 * w) most (omega arith),
+      lt-ltb (k + 2 * w + 2 * u) most (omega arith),
+      lt-ltb (k + 2 * w) most (omega arith),
+      lt-ltb (k + 2 * v + 2 * u) most (omega arith),
+      lt-ltb (k + 2 * v) most (omega arith),
+      lt-ltb (k + 2 * u) most (omega arith),
+      lt-ltb k most (omega arith),
+    )
+    refl
+
+leaf-below : (z : ℕ) → Placed z → allBelow most (keysIn z) ≡ true
+leaf-below z p =
+    let h : ℕ = 1 * 2 ^ levelIn z in
+    let s = small z h refl p in
+    ap (allBelow most) (keys-are z h refl)
+    ∙ nine-below (z % 549755813888 * (2 * h)) (h * 67108864) (h * 8192) h (omega (arith, s .wide, s .low)) (omega (arith, s .wide, s .low))
+
+-- of the distinct ones of small keys each is small
+distinct-below : (l : List ℕ) → allBelow most l ≡ true → (i : ℕ) → i < length (distinctSorted l) → getD (distinctSorted l) i 0 < most
+distinct-below l h i b =
+    let x : ℕ = getD (distinctSorted l) i 0 in
+    let r = cnt-find x l (omega (arith, cnt-at (distinctSorted l) i b, members l x)) in
+    omega (arith, below-at most l h (r .0) (r .1), r .2)
+
+-- ---- the work once the vertices are numbered
+
+module _ (s : List ℕ) (nx ny nz l n : ℕ) (w : List ℕ) (h : Numberable s nx ny nz l n w) where
+  abbrev L : List ℕ
+  L = leafList l (pos nx ny nz) (read (pos nx ny nz) l s)
+
+  abbrev listed-work : List ℕ → List ℕ
+  listed-work z = putMid (9 * n) (10 * n - 9 * n) w z
+
+  pub list-length : {z : List ℕ} → z ≡ leafList l (pos nx ny nz) (read (pos nx ny nz) l s) → length z ≡ n
+  list-length e = ap length e ∙ sym (h .leaves)
+
+  module _ (z : List ℕ) (ez : z ≡ leafList l (pos nx ny nz) (read (pos nx ny nz) l s)) where
+    pub standing : Standing s nx ny nz l (putMid (9 * n) (10 * n - 9 * n) w z) (9 * n) n
+    standing = record {
+      fits = omega (arith, listed-length w z (replicate (9 * n) 0) n (h .room) (list-length ez) (length-replicate (9 * n) zero), h .room);
+      many = h .leaves;
+      here = list-behind w z (replicate (9 * n) 0) n (h .room) (list-length ez) (length-replicate (9 * n) zero) ∙ ez;
+    }
+
+    abbrev K : List ℕ
+    K = keysFrom (putMid (9 * n) (10 * n - 9 * n) w z) (9 * n) n
+
+    keys-long : length (keysFrom (putMid (9 * n) (10 * n - 9 * n) w z) (9 * n) n) ≡ 9 * n
+    keys-long = length-run n _ 0 ∙ sum-same n _ _ 0 (λ j a b. keys-nine (getD (listed-work z) (9 * n + j) 0)) ∙ sum-flat n 9 0 ∙ omega arith
+
+    keys-same : distinctSorted (keysFrom (putMid (9 * n) (10 * n - 9 * n) w z) (9 * n) n) ≡ vertexKeys l (pos nx ny nz) s
+    unfolding vertexKeys
+    keys-same =
+        ap distinctSorted (sym (keys-by s nx ny nz l (h .taken) (listed-work z) (9 * n) n standing))
+        ∙ same-distinct _ _ (same-vertices s nx ny nz l (h .taken))
+
+    keys-below : allBelow most K ≡ true
+    keys-below = below-run most (λ j. keysIn (getD (listed-work z) (9 * n + j) 0)) n 0 (λ j a b. leaf-below (getD (listed-work z) (9 * n + j) 0) (all-placed s nx ny nz l (h .taken) (listed-work z) (9 * n) n standing j (omega arith)))
+
+    leaves-few : n ≤ 8388608
+    leaves-few =
+        let a = leaves-bound (read (pos nx ny nz) l s) alone 1 (λ m x. omega arith) l (pos nx ny nz) in
+        omega (arith, a, h .leaves, places-few (pos nx ny nz) l (h .taken .some), h .taken .whole, h .octants)
+
+    -- what the sort of the keys leaves
+    module _ (M : List ℕ) (v : ℕ) (w₂ : List ℕ) (e₂ : w₂ ≡ sets (putMid (9 * n) (10 * n - 9 * n) w z) 0 (keysFrom (putMid (9 * n) (10 * n - 9 * n) w z) (9 * n) n))
+        (lm : length M ≡ length (take (9 * n) w₂)) (em : M ≡ numbered (take (9 * n) w₂)) (ev : v ≡ length (distinctSorted (take (9 * n) w₂))) where
+      front-is : take (9 * n) w₂ ≡ K
+      front-is = ap (take (9 * n)) e₂ ∙ keys-front w z K n (h .room) (list-length ez) keys-long
+
+      m-is : M ≡ numbered K
+      m-is = em ∙ ap numbered front-is
+
+      v-is : v ≡ length (distinctSorted K)
+      v-is = ev ∙ ap (λ (l : List ℕ). length (distinctSorted l)) front-is
+
+      m-long : length M ≡ 9 * n
+      m-long = lm ∙ ap length front-is ∙ keys-long
+
+      v-few : v < 2 ^ 32
+      v-few = omega (arith, v-is, distinct-short K, keys-long, leaves-few)
+
+      abbrev work-is : List ℕ
+      work-is = M ++ drop (9 * n) w₂
+
+      fronts : take v (M ++ drop (9 * n) w₂) ≡ distinctSorted K
+      fronts =
+          ap₂ (λ (i : ℕ) (q : List ℕ). take i (q ++ drop (9 * n) w₂)) v-is m-is ∙ numbered-front K (drop (9 * n) w₂)
+
+      pub ready : Ready s nx ny nz l n (M ++ drop (9 * n) w₂) v
+      ready = record {
+        lookup = subst₂ (λ (i : ℕ) (q : List ℕ). Lookup (q ++ drop (9 * n) w₂) i) (sym v-is) (sym m-is) (find-ready K (drop (9 * n) w₂) (omega (arith, v-few, v-is)));
+        keys = fronts ∙ keys-same;
+        small = small′;
+        list = ap (λ (q : List ℕ). take n (drop (9 * n) (M ++ drop (9 * n) q))) e₂ ∙ list-still w z K n (h .room) (list-length ez) keys-long M m-long ∙ ez;
+      }
+        where
+          small′ : (i : ℕ) → i < v → getD (M ++ drop (9 * n) w₂) i 0 < most
+          small′ i b =
+              let e : getD (M ++ drop (9 * n) w₂) i 0 ≡ getD (distinctSorted K) i 0 =
+              sym (getD-take v (M ++ drop (9 * n) w₂) i 0 b) ∙ ap (λ (q : List ℕ). getD q i 0) fronts
+              in
+              omega (arith, e, distinct-below K keys-below i (omega (arith, v-is)))

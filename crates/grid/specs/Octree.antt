@@ -10,7 +10,13 @@ use Rattle.numbering.specs.Keys.{tripleOf}
 use Rattle.numbering.specs.Distinct.{Lookup}
 use Rattle.sides.specs.Told.{Taken}
 use Rattle.leaves.specs.Leaves.{leafList}
-use Rattle.grid.specs.Grid.{vertexKeys}
+use mathlib.Core.Bool.{cond}
+use lib.ListN.{replicate}
+use Rattle.plan.specs.declared.Plan.{Plan}
+use Rattle.grid.specs.Grid.{vertexKeys, cellTable, tripleTable, pointTable}
+use Rattle.grid.specs.Step.{cellCount, vertexCount, lacksVertices, resultAfter}
+use Rattle.grid.specs.declared.Gridded.{Gridded}
+use Rattle.grid.specs.declared.Gridded.the-variants.{Done, NoVertices}
 
 -- three entries of a key's triple
 unfoldable pub threeOf : (Axis → ℕ → ℕ) → ℕ → List ℕ
@@ -40,3 +46,18 @@ pub record Ready (s : List ℕ) (nx ny nz l n : ℕ) (w : List ℕ) (v : ℕ) : 
   pub keys : take v w ≡ vertexKeys l (pos nx ny nz) s
   pub small : (i : ℕ) → i < v → getD w i 0 < 549755813888
   pub list : take n (drop (9 * n) w) ≡ leafList l (pos nx ny nz) (read (pos nx ny nz) l s)
+
+-- an octree whose work is lent whole and whose cells have just the room
+pub record Fillable (p : Plan) (s : List ℕ) (n : ℕ) (C w : List ℕ) : Type 0 where
+  pub some : 1 ≤ p .levels
+  pub numberable : Numberable s (p .nx) (p .ny) (p .nz) (p .levels) n w
+  pub cells : length C ≡ 4 * cellCount p s
+
+-- stored where there is room for the vertices, and the work left zero
+pub record Stocked (p : Plan) (s C T P w : List ℕ) (r : Gridded) (C′ T′ P′ w′ : List ℕ) : Type 0 where
+  pub answer :
+      r ≡ cond (lacksVertices (vertexCount p s) (length T) (length P)) (NoVertices (cellCount p s) (vertexCount p s)) (Done (cellCount p s) (vertexCount p s))
+  pub cells : C′ ≡ resultAfter r (cellTable p s) C
+  pub triples : T′ ≡ resultAfter r (tripleTable p s) T
+  pub points : P′ ≡ resultAfter r (pointTable p s) P
+  pub work : w′ ≡ replicate (length w) 0

@@ -2,12 +2,16 @@
 ghost use mathlib.Core.Path.{_≡_};
 ghost use Prim.Native.Nat.{_*_, _<_, _≤_};
 ghost use mathlib.Core.List.{[]};
+ghost use lib.ListN.{length};
 ghost use Rattle.lists.specs.Ladder.{first};
-ghost use Rattle.grid.specs.Step.{lacksCells, lacksVertices, splitRows, Planful, Filled};
-ghost use Rattle.grid.specs.Octree.{keyTable, KeysFit};
+ghost use Rattle.grid.specs.Step.{lacksCells, lacksVertices, splitRows, Planful, Filled, GridDone};
+ghost use Rattle.sides.specs.Told.{Taken};
+ghost use Rattle.grid.specs.Octree.{keyTable, KeysFit, Numberable, Ready, Fillable, Stocked};
 ghost use Rattle.lattice.specs.Storing.{tripleAt, pointAt};
 ghost use lib.Seq.{sets};
+use plan::Bounds;
 use plan::Plan;
+use plan::Planned;
 
 // The outcome of `grid`: how many cells and vertices there are; refused, with document 01's number; no room or work for so many cells;
 // no room for so many vertices.
@@ -113,4 +117,119 @@ fn store_vertices(keys: &[u64], v: usize, triples: &mut [u32], points: &mut [u32
         here += 3;
         i += 1;
     }
+}
+
+// Numbers the vertices of an octree in the work: the keys of its leaves' points, sorted, one of each. The list of leaves stays behind
+// the room for nine keys a leaf.
+fn number_vertices(
+    split: &[u8],
+    nx: usize,
+    ny: usize,
+    nz: usize,
+    levels: usize,
+    many: usize,
+    work: &mut [u64],
+) -> usize
+    requires { ⌜ Numberable (now split) nx ny nz levels many (now work) ⌝ }
+    ensures { λ v. ⌜ Ready (now (split .entry)) nx ny nz levels many (now (work .exit)) v ⌝ }
+{
+    let list = 9 * many;
+    let end = 10 * many;
+    leaves::list_leaves(split, nx, ny, nz, levels, &mut work[list..end]);
+    leaf_cells::leaf_keys(work, list, many);
+    numbering::number(&mut work[..list])
+}
+
+// The cells and vertices of an octree, with work for its cells and room for just these.
+fn octree_fill(
+    p: Plan,
+    split: &[u8],
+    many: usize,
+    cells: &mut [u32],
+    triples: &mut [u32],
+    points: &mut [u32],
+    work: &mut [u64],
+) -> Gridded
+    requires { ⌜ Fillable p (now split) many (now cells) (now work) ⌝ }
+    ensures { λ r. ⌜ Stocked p (now (split .entry)) (now (cells .entry)) (now (triples .entry)) (now (points .entry)) (now (work .entry)) r (now (cells .exit)) (now (triples .exit)) (now (points .exit)) (now (work .exit)) ⌝ }
+{
+    let nx = p.nx as usize;
+    let ny = p.ny as usize;
+    let nz = p.nz as usize;
+    let levels = p.levels as usize;
+    let count = cells.len() / 4;
+    let v = number_vertices(split, nx, ny, nz, levels, many, work);
+    if lacks_vertices(v, triples.len(), points.len()) {
+        lists::zero64(work);
+        return Gridded::NoVertices(count as u64, v as u64);
+    }
+    let most = 3 * v;
+    store_vertices(work, v, &mut triples[..most], &mut points[..most], p);
+    leaf_cells::store_cells(split, nx, ny, nz, levels, work, v, 9 * many, many, cells);
+    lists::zero64(work);
+    Gridded::Done(count as u64, v as u64)
+}
+
+// The octree of a plan and a split table.
+fn octree_grid(
+    p: Plan,
+    split: &[u8],
+    cells: &mut [u32],
+    triples: &mut [u32],
+    points: &mut [u32],
+    work: &mut [u64],
+) -> Gridded
+    requires { ⌜ (1 ≤ p .levels) × Taken (now split) (p .nx) (p .ny) (p .nz) (p .levels) × (length (now split) ≤ 1048576) ⌝ }
+    ensures { λ r. ⌜ Filled p (now (split .entry)) (now (cells .entry)) (now (triples .entry)) (now (points .entry)) (now (work .entry)) r (now (cells .exit)) (now (triples .exit)) (now (points .exit)) (now (work .exit)) ⌝ }
+{
+    let n = leaves::count_cells(
+        split,
+        p.nx as usize,
+        p.ny as usize,
+        p.nz as usize,
+        p.levels as usize,
+    );
+    let count = n.cells;
+    if lacks_cells(count, cells.len(), work.len()) {
+        return Gridded::NoCells(count as u64);
+    }
+    let need = 4 * count;
+    octree_fill(
+        p,
+        split,
+        n.leaves,
+        &mut cells[..need],
+        triples,
+        points,
+        &mut work[..need],
+    )
+}
+
+// The grid of a box, a cell size, levels and a split table. Refused with 1 to 7; with 9 and the cells where `cells` or `work`, four
+// entries a cell, is too short, all tables as lent; with 9, the cells and the vertices where `triples` or `points` is too short, and on
+// an answer: the work entries are then zero. Entries past the need are never written.
+pub fn grid(
+    b: Bounds,
+    c: f32,
+    levels: u32,
+    split: &[u8],
+    cells: &mut [u32],
+    triples: &mut [u32],
+    points: &mut [u32],
+    work: &mut [u64],
+) -> Gridded
+    ensures { λ r. ⌜ GridDone b c levels (now (split .entry)) (now (cells .entry)) (now (triples .entry)) (now (points .entry)) (now (work .entry)) r (now (cells .exit)) (now (triples .exit)) (now (points .exit)) (now (work .exit)) ⌝ }
+{
+    let a = Plan::new(b, c, levels);
+    let Planned::Ready(p) = a else {
+        return Gridded::Refused(a.number());
+    };
+    let number = judge(split, p);
+    if number != 0 {
+        return Gridded::Refused(number);
+    }
+    if levels == 0 {
+        return lattice_grid(p, cells, triples, points, work);
+    }
+    octree_grid(p, split, cells, triples, points, work)
 }

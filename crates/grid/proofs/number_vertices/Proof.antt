@@ -1,0 +1,82 @@
+use mathlib.Core.Path.{sym}
+use Prim.Native.Nat.{_*_}
+use native.Mathlib.Omega.{arith}
+use lib.Seq.{length-take-le}
+use Rattle.leaf_cells.proofs.Keys.{all-placed}
+use Rattle.grid.proofs.Octrees.{standing, ready}
+use borrow.Author.Needs.{needs}
+use Rattle.grid.proofs.number_vertices.Statement.{statement}
+use Rattle.grid.proofs.number_vertices.Tie as tie
+use Rattle.grid.proofs.number_vertices.Reads as reads
+use Rattle.grid.proofs.number_vertices.Lts as lts
+use Rattle.leaf_cells.proofs.leaf_keys.Reads as leaf-keys-reads
+use Rattle.leaves.proofs.list_leaves.Reads as list-leaves-reads
+use Rattle.numbering.proofs.number.Reads as number-reads
+
+mul-list : tie.Need-mul-list
+mul-list c = search needs
+
+mul-end : tie.Need-mul-end
+mul-end c = search needs
+
+mul-list-leaves : tie.Need-mul-list-leaves
+mul-list-leaves c = search needs
+
+sub-list-leaves : tie.Need-sub-list-leaves
+sub-list-leaves c = search needs
+
+part-list-leaves-start : tie.Need-part-list-leaves-start
+part-list-leaves-start c = search needs
+
+part-list-leaves-end : tie.Need-part-list-leaves-end
+part-list-leaves-end c = search needs
+
+list-leaves-requires : tie.Need-list-leaves-requires
+list-leaves-requires c κs = search needs
+
+leaf-keys-requires : tie.Need-leaf-keys-requires
+leaf-keys-requires c κs =
+    let a = c .before .before .before .before .before .before .before .args in
+    let h = c .before .before .before .before .before .before .before .pre in
+    let k = standing (a .split .now) (a .nx) (a .ny) (a .nz) (a .levels) (a .many) (a .work .now) h _ (c .before .before .before .list-leaves .ensures) in
+    ((k .fits, omega arith), all-placed _ _ _ _ _ (h .taken) _ _ _ k)
+
+slice-relend-prefix-number : tie.Need-slice-relend-prefix-number
+slice-relend-prefix-number c = search needs
+
+slice-aggregate-number : tie.Need-slice-aggregate-number
+slice-aggregate-number c =
+    let a = c .before .before .before .before .before .before .before .before .before .before .before .args in
+    let h = c .before .before .before .before .before .before .before .before .before .before .before .pre in
+    let k = standing (a .split .now) (a .nx) (a .ny) (a .nz) (a .levels) (a .many) (a .work .now) h _ (c .before .before .before .before .before .before .before .list-leaves .ensures) in
+    sym (length-take-le _ _ (omega (arith, k .fits, c .before .before .before .leaf-keys .kept .0)))
+
+number-requires : tie.Need-number-requires
+number-requires c κs = search needs
+
+same-length : tie.Need-same-length
+same-length c = search needs
+
+returns : tie.Need-returns
+returns c =
+    let a = c .before .before .before .before .before .before .before .before .before .before .before .before .before .before .args in
+    let h = c .before .before .before .before .before .before .before .before .before .before .before .before .before .before .pre in
+    ready (a .split .now) (a .nx) (a .ny) (a .nz) (a .levels) (a .many) (a .work .now) h _ (c .before .before .before .before .before .before .before .before .before .before .list-leaves .ensures) _ _ _ (c .before .before .before .before .before .before .leaf-keys .ensures) (c .before .before .number .kept .0) (c .before .before .number .ensures .1) (c .before .before .number .ensures .0)
+
+pub number-vertices-spec : {M : Type 1} → statement M
+number-vertices-spec =
+    tie.close
+    (tie.spec
+    mul-list
+    mul-end
+    mul-list-leaves
+    sub-list-leaves
+    part-list-leaves-start
+    part-list-leaves-end
+    list-leaves-requires
+    leaf-keys-requires
+    slice-relend-prefix-number
+    slice-aggregate-number
+    number-requires
+    same-length
+    returns)

@@ -1,0 +1,150 @@
+use mathlib.Core.Path.{_≡_, refl, sym, ap, _∙_}
+use Prim.Native.Nat.{ℕ, _*_, _/_}
+use native.Mathlib.Omega.{arith}
+use lib.ListN.{length}
+use lib.Seq.{length-take-le}
+use Rattle.grid.specs.Step.{cellCount}
+use Rattle.grid.proofs.Outcomes.{vertices-room, lent-full, length-triples, length-points}
+use Rattle.grid.proofs.Octrees.{octree-vertex-count, octree-cell-count, octree-table, octree-triples, octree-points}
+use Rattle.grid.proofs.Steps.{stocked-none, stocked-done}
+use borrow.Author.Needs.{needs}
+use Rattle.grid.proofs.octree_fill.Statement.{statement}
+use Rattle.grid.proofs.octree_fill.Tie as tie
+use Rattle.grid.proofs.octree_fill.Reads as reads
+use Rattle.grid.proofs.octree_fill.Lts as lts
+use Rattle.grid.proofs.lacks_vertices.Reads as lacks-vertices-reads
+use Rattle.grid.proofs.number_vertices.Reads as number-vertices-reads
+use Rattle.grid.proofs.store_vertices.Reads as store-vertices-reads
+use Rattle.leaf_cells.proofs.store_cells.Reads as store-cells-reads
+use Rattle.lists.proofs.zero64.Reads as zero64-reads
+
+cast-nx : tie.Need-cast-nx
+cast-nx c = search needs
+
+cast-ny : tie.Need-cast-ny
+cast-ny c = search needs
+
+cast-nz : tie.Need-cast-nz
+cast-nz c = search needs
+
+cast-levels : tie.Need-cast-levels
+cast-levels c = search needs
+
+number-vertices-requires : tie.Need-number-vertices-requires
+number-vertices-requires c κs = search needs
+
+lacks-vertices-requires : tie.Need-lacks-vertices-requires
+lacks-vertices-requires c κs = search needs
+
+zero64-requires : tie.Need-zero64-requires
+zero64-requires c κs = search needs
+
+same-length : tie.Need-same-length
+same-length c = search needs
+
+returns : tie.Need-returns
+returns c =
+    let a = c .before .before .before .before .before .before .before .before .before .before .before .before .before .before .before .before .before .before .before .args in
+    let h = c .before .before .before .before .before .before .before .before .before .before .before .before .before .before .before .before .before .before .before .pre in
+    let k = c .before .before .before .before .before .before .before .before .number-vertices .ensures in
+    let ev = octree-vertex-count (a .p) (a .split .now) (h .some) _ _ (k .lookup .fits) (k .keys) in
+    let e4 = h .cells in
+    let en : length (a .cells .now) / 4 ≡ cellCount (a .p) (a .split .now) = omega arith in
+    stocked-none (a .p) (a .split .now) _ _ _ _ en ev (c .before .before .zero64 .ensures) (c .before .before .before .before .before .before .before .before .number-vertices .kept .1 .1 .1 .1 .1 .1 .0) (sym (c .before .before .before .before .before .lacks-vertices .ensures) ∙ c .before .before .before .before .if1 .taken)
+
+mul-most : tie.Need-mul-most
+mul-most c = search needs
+
+slice-relend-prefix-store-vertices : tie.Need-slice-relend-prefix-store-vertices
+slice-relend-prefix-store-vertices c = let lv = sym (c .before .before .lacks-vertices .ensures) ∙ c .before .if1 .left in vertices-room _ _ _ lv .0
+
+slice-aggregate-store-vertices : tie.Need-slice-aggregate-store-vertices
+slice-aggregate-store-vertices c = let lv = sym (c .before .before .before .lacks-vertices .ensures) ∙ c .before .before .if1 .left in sym (length-take-le _ _ (vertices-room _ _ _ lv .0))
+
+slice-relend-prefix-store-vertices-2 : tie.Need-slice-relend-prefix-store-vertices-2
+slice-relend-prefix-store-vertices-2 c = let lv = sym (c .before .before .before .lacks-vertices .ensures) ∙ c .before .before .if1 .left in vertices-room _ _ _ lv .1
+
+slice-aggregate-store-vertices-2 : tie.Need-slice-aggregate-store-vertices-2
+slice-aggregate-store-vertices-2 c = let lv = sym (c .before .before .before .before .lacks-vertices .ensures) ∙ c .before .before .before .if1 .left in sym (length-take-le _ _ (vertices-room _ _ _ lv .1))
+
+store-vertices-requires : tie.Need-store-vertices-requires
+store-vertices-requires c κs =
+    let k = c .before .before .before .before .before .before .before .number-vertices .ensures in
+    let lv = sym (c .before .before .before .before .lacks-vertices .ensures) ∙ c .before .before .before .if1 .left in
+    let r = vertices-room _ _ _ lv in
+    record { there = k .lookup .fits; small = k .small; triple-room = omega (arith, length-take-le _ (c .before .before .before .before .before .before .before .before .before .before .before .before .before .before .before .before .before .before .args .triples .now) (r .0)); point-room = omega (arith, length-take-le _ (c .before .before .before .before .before .before .before .before .before .before .before .before .before .before .before .before .before .before .args .points .now) (r .1)) }
+
+mul-store-cells : tie.Need-mul-store-cells
+mul-store-cells c = omega (arith, c .before .before .before .before .before .before .before .before .before .before .before .before .before .before .before .before .before .before .before .before .before .before .before .before .pre .numberable .room, c .before .before .before .before .before .before .before .before .before .before .before .before .before .before .before .before .before .before .before .before .before .before .before .before .good)
+
+store-cells-requires : tie.Need-store-cells-requires
+store-cells-requires c κs =
+    let a = c .before .before .before .before .before .before .before .before .before .before .before .before .before .before .before .before .before .before .before .before .before .before .before .before .before .args in
+    let h = c .before .before .before .before .before .before .before .before .before .before .before .before .before .before .before .before .before .before .before .before .before .before .before .before .before .pre in
+    let k = c .before .before .before .before .before .before .before .before .before .before .before .before .before .before .number-vertices .ensures in
+    let ev = octree-vertex-count (a .p) (a .split .now) (h .some) _ _ (k .lookup .fits) (k .keys) in
+    let m = h .numberable in
+    (m .taken, (k .lookup, (record { fits = omega (arith, m .room, c .before .before .before .before .before .before .before .before .before .before .before .before .before .before .number-vertices .kept .1 .1 .1 .1 .1 .1 .0); many = m .leaves; here = k .list }, h .cells ∙ ap (λ (i : ℕ). 4 * i) (octree-cell-count (a .p) (a .split .now) (h .some)))))
+
+zero64-requires-2 : tie.Need-zero64-requires-2
+zero64-requires-2 c κs = search needs
+
+same-length-2 : tie.Need-same-length-2
+same-length-2 c = search needs
+
+same-length-3 : tie.Need-same-length-3
+same-length-3 c = search needs
+
+same-length-4 : tie.Need-same-length-4
+same-length-4 c = search needs
+
+same-length-5 : tie.Need-same-length-5
+same-length-5 c = search needs
+
+returns-2 : tie.Need-returns-2
+returns-2 c =
+    let a = c .before .before .before .before .before .before .before .before .before .before .before .before .before .before .before .before .before .before .before .before .before .before .before .before .before .before .before .before .before .before .before .before .args in
+    let h = c .before .before .before .before .before .before .before .before .before .before .before .before .before .before .before .before .before .before .before .before .before .before .before .before .before .before .before .before .before .before .before .before .pre in
+    let k = c .before .before .before .before .before .before .before .before .before .before .before .before .before .before .before .before .before .before .before .before .before .number-vertices .ensures in
+    let ev = octree-vertex-count (a .p) (a .split .now) (h .some) _ _ (k .lookup .fits) (k .keys) in
+    let e4 = h .cells in
+    let en : length (a .cells .now) / 4 ≡ cellCount (a .p) (a .split .now) = omega arith in
+    let lv = sym (c .before .before .before .before .before .before .before .before .before .before .before .before .before .before .before .before .before .before .lacks-vertices .ensures) ∙ c .before .before .before .before .before .before .before .before .before .before .before .before .before .before .before .before .before .if1 .left in
+    let r = vertices-room _ _ _ lv in
+    let et = octree-triples (a .p) (a .split .now) (h .some) _ _ (k .lookup .fits) (k .keys) in
+    let ep = octree-points (a .p) (a .split .now) (h .some) _ _ (k .lookup .fits) (k .keys) in
+    let tl = ap length et ∙ length-triples (a .p) (a .split .now) ∙ ap (λ (i : ℕ). 3 * i) (sym ev) in
+    let pl = ap length ep ∙ length-points (a .p) (a .split .now) ∙ ap (λ (i : ℕ). 3 * i) (sym ev) in
+    let sv = c .before .before .before .before .before .before .before .before .before .before .before .before .before .store-vertices .ensures in
+    stocked-done (a .p) (a .split .now) _ _ _ _ en ev (c .before .before .zero642 .ensures) (c .before .before .before .before .before .before .before .before .before .before .before .before .before .before .before .before .before .before .before .before .before .number-vertices .kept .1 .1 .1 .1 .1 .1 .0) lv (h .cells)
+    (c .before .before .before .before .before .before .store-cells .ensures ∙ octree-table (a .p) (a .split .now) (h .some) _ _ (k .lookup .fits) (k .keys))
+    (lent-full _ _ _ tl (r .0) (sv .0) ∙ et)
+    (lent-full _ _ _ pl (r .1) (sv .1) ∙ ep)
+
+pub octree-fill-spec : {M : Type 1} → statement M
+octree-fill-spec =
+    tie.close
+    (tie.spec
+    cast-nx
+    cast-ny
+    cast-nz
+    cast-levels
+    number-vertices-requires
+    lacks-vertices-requires
+    zero64-requires
+    same-length
+    returns
+    mul-most
+    slice-relend-prefix-store-vertices
+    slice-aggregate-store-vertices
+    slice-relend-prefix-store-vertices-2
+    slice-aggregate-store-vertices-2
+    store-vertices-requires
+    mul-store-cells
+    store-cells-requires
+    zero64-requires-2
+    same-length-2
+    same-length-3
+    same-length-4
+    same-length-5
+    returns-2)

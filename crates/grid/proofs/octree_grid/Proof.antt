@@ -1,0 +1,117 @@
+use mathlib.Core.Path.{_≡_, refl, sym, ap, _∙_}
+use Prim.Native.Nat.{ℕ, _*_}
+use native.Mathlib.Omega.{arith}
+use lib.Seq.{length-take-le}
+use Rattle.leaves.proofs.Walking.{six-each, cells-few}
+use Rattle.octants.specs.Table.{read}
+use Rattle.lattice.specs.Storing.{dimsOf}
+use Rattle.grid.proofs.Outcomes.{cells-room, no-cells}
+use Rattle.grid.proofs.Octrees.{octree-cell-count}
+use Rattle.grid.proofs.Steps.{fill-whole}
+use borrow.Author.Needs.{needs}
+use Rattle.grid.proofs.octree_grid.Statement.{statement}
+use Rattle.grid.proofs.octree_grid.Tie as tie
+use Rattle.grid.proofs.octree_grid.Reads as reads
+use Rattle.grid.proofs.octree_grid.Lts as lts
+use Rattle.grid.proofs.lacks_cells.Reads as lacks-cells-reads
+use Rattle.grid.proofs.octree_fill.Reads as octree-fill-reads
+use Rattle.leaves.proofs.count_cells.Reads as count-cells-reads
+
+cast-count-cells : tie.Need-cast-count-cells
+cast-count-cells c = search needs
+
+cast-count-cells-2 : tie.Need-cast-count-cells-2
+cast-count-cells-2 c = search needs
+
+cast-count-cells-3 : tie.Need-cast-count-cells-3
+cast-count-cells-3 c = search needs
+
+cast-count-cells-4 : tie.Need-cast-count-cells-4
+cast-count-cells-4 c = search needs
+
+count-cells-requires : tie.Need-count-cells-requires
+count-cells-requires c κs = search needs
+
+lacks-cells-requires : tie.Need-lacks-cells-requires
+lacks-cells-requires c κs = let a = c .before .before .before .before .before .before .before .before .before .before .args in omega (arith, c .count-cells .ensures .ofCells, cells-few (a .split .now) (a .p .nx) (a .p .ny) (a .p .nz) (a .p .levels) (c .before .before .before .before .before .before .before .before .before .before .pre .1))
+
+returns : tie.Need-returns
+returns c =
+    let a = c .before .before .before .before .before .before .before .before .before .before .before .before .args in
+    let h = c .before .before .before .before .before .before .before .before .before .before .before .before .pre in
+    let k = c .before .before .count-cells .ensures in
+    let en = k .ofCells ∙ sym (octree-cell-count (a .p) (a .split .now) (h .0)) in
+    no-cells (a .p) (a .split .now) _ _ _ _ en (sym (c .before .lacks-cells .ensures) ∙ c .if1 .taken)
+
+mul-need : tie.Need-mul-need
+mul-need c = let a = c .before .before .before .before .before .before .before .before .before .before .before .before .args in omega (arith, c .before .before .count-cells .ensures .ofCells, cells-few (a .split .now) (a .p .nx) (a .p .ny) (a .p .nz) (a .p .levels) (c .before .before .before .before .before .before .before .before .before .before .before .before .pre .1))
+
+slice-relend-prefix-octree-fill : tie.Need-slice-relend-prefix-octree-fill
+slice-relend-prefix-octree-fill c = let lc = sym (c .before .lacks-cells .ensures) ∙ c .if1 .left in cells-room _ _ _ lc .0
+
+slice-aggregate-octree-fill : tie.Need-slice-aggregate-octree-fill
+slice-aggregate-octree-fill c = let lc = sym (c .before .before .lacks-cells .ensures) ∙ c .before .if1 .left in sym (length-take-le _ _ (cells-room _ _ _ lc .0))
+
+slice-relend-prefix-octree-fill-2 : tie.Need-slice-relend-prefix-octree-fill-2
+slice-relend-prefix-octree-fill-2 c = let lc = sym (c .before .before .before .before .lacks-cells .ensures) ∙ c .before .before .before .if1 .left in cells-room _ _ _ lc .1
+
+slice-aggregate-octree-fill-2 : tie.Need-slice-aggregate-octree-fill-2
+slice-aggregate-octree-fill-2 c = let lc = sym (c .before .before .before .before .before .lacks-cells .ensures) ∙ c .before .before .before .before .if1 .left in sym (length-take-le _ _ (cells-room _ _ _ lc .1))
+
+octree-fill-requires : tie.Need-octree-fill-requires
+octree-fill-requires c κs =
+    let a = c .before .before .before .before .before .before .before .before .before .before .before .before .before .before .before .before .args in
+    let h = c .before .before .before .before .before .before .before .before .before .before .before .before .before .before .before .before .pre in
+    let k = c .before .before .before .before .before .before .count-cells .ensures in
+    let en = k .ofCells ∙ sym (octree-cell-count (a .p) (a .split .now) (h .0)) in
+    let lc = sym (c .before .before .before .before .before .lacks-cells .ensures) ∙ c .before .before .before .before .if1 .left in
+    let r = cells-room _ _ _ lc in
+    let q = six-each (a .p .levels) (dimsOf (a .p)) (read (dimsOf (a .p)) (a .p .levels) (a .split .now)) in
+    record {
+      some = h .0;
+      numberable = record { taken = h .1; octants = h .2; leaves = k .ofLeaves; room = omega (arith, q, k .ofLeaves, k .ofCells, length-take-le _ (a .work .now) (r .1)) };
+      cells = length-take-le _ (a .cells .now) (r .0) ∙ ap (λ (i : ℕ). 4 * i) en;
+    }
+
+same-length : tie.Need-same-length
+same-length c = search needs
+
+same-length-2 : tie.Need-same-length-2
+same-length-2 c = search needs
+
+same-length-3 : tie.Need-same-length-3
+same-length-3 c = search needs
+
+same-length-4 : tie.Need-same-length-4
+same-length-4 c = search needs
+
+returns-2 : tie.Need-returns-2
+returns-2 c =
+    let a = c .before .before .before .before .before .before .before .before .before .before .before .before .before .before .before .before .before .before .before .before .before .before .before .before .before .args in
+    let h = c .before .before .before .before .before .before .before .before .before .before .before .before .before .before .before .before .before .before .before .before .before .before .before .before .before .pre in
+    let k = c .before .before .before .before .before .before .before .before .before .before .before .before .before .before .before .count-cells .ensures in
+    let en = k .ofCells ∙ sym (octree-cell-count (a .p) (a .split .now) (h .0)) in
+    fill-whole (a .p) (a .split .now) _ _ _ _ en (sym (c .before .before .before .before .before .before .before .before .before .before .before .before .before .before .lacks-cells .ensures) ∙ c .before .before .before .before .before .before .before .before .before .before .before .before .before .if1 .left) (c .before .before .before .before .before .before .before .before .octree-fill .ensures)
+
+pub octree-grid-spec : {M : Type 1} → statement M
+octree-grid-spec =
+    tie.close
+    (tie.spec
+    cast-count-cells
+    cast-count-cells-2
+    cast-count-cells-3
+    cast-count-cells-4
+    count-cells-requires
+    lacks-cells-requires
+    returns
+    mul-need
+    slice-relend-prefix-octree-fill
+    slice-aggregate-octree-fill
+    slice-relend-prefix-octree-fill-2
+    slice-aggregate-octree-fill-2
+    octree-fill-requires
+    same-length
+    same-length-2
+    same-length-3
+    same-length-4
+    returns-2)
