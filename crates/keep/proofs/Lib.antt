@@ -1,0 +1,3 @@
+-- Laws that the proofs of keep share.
+pub mod Marking
+pub mod Steps

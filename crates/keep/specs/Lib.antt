@@ -1,0 +1,3 @@
+-- The definitions that the contracts of keep cite.
+pub mod Marked
+pub mod Step

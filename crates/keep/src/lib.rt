@@ -1,0 +1,228 @@
+// The steps `keep_cover` and `keep_crust`: the cells that the surface crosses, with those inside or without them, as a mesh of its own.
+ghost use mathlib.Core.Path.{_≡_};
+ghost use lib.ListN.{length};
+ghost use Rattle.lists.specs.Counts.{unit};
+ghost use Rattle.lists.specs.Ladder.{first};
+ghost use Rattle.lists.specs.Tables.{cellsOf};
+ghost use Rattle.groups.specs.Settled.{Sized, Labelled};
+ghost use Rattle.compact.specs.Kept.{KeptMarked};
+ghost use Rattle.compact.specs.Weighed.{Marks};
+ghost use Rattle.keep.specs.Marked.{crustMark, coverMark, coverIn, ProbeAsked, CoverAsked, MarksOf, KeepAsked};
+ghost use Rattle.keep.specs.Step.{crustRows, coverRows, crustOf, crustCells, coverOf, coverCells, KeepDone};
+use compact::Kept;
+
+// The number that Crust is refused with, where the work is to have `need` entries: 1, 4, 5, 6, 8, or 0.
+fn judge_crust(
+    c: f32,
+    points: usize,
+    cells: &[u32],
+    crossing: &[u8],
+    room: usize,
+    need: usize,
+) -> u32
+    ensures { λ r. ⌜ r ≡ first (crustRows c points (now (cells .entry)) (now (crossing .entry)) room need) ⌝ }
+{
+    if !float32::is_size(c) {
+        return 1;
+    }
+    groups::judge(points, cells, crossing, room, need)
+}
+
+// The same for Cover, with a probe table.
+fn judge_cover(
+    c: f32,
+    points: usize,
+    cells: &[u32],
+    crossing: &[u8],
+    probe: &[u8],
+    room: usize,
+    need: usize,
+) -> u32
+    ensures { λ r. ⌜ r ≡ first (coverRows c points (now (cells .entry)) (now (crossing .entry)) (now (probe .entry)) room need) ⌝ }
+{
+    if !float32::is_size(c) {
+        return 1;
+    }
+    let number = groups::judge_sizes(points, cells.len(), crossing.len(), room, need);
+    if number != 0 {
+        return number;
+    }
+    if probe.len() != cells.len() / 4 {
+        return 5;
+    }
+    if !lists::all_at_most(crossing, 1) {
+        return 6;
+    }
+    if !lists::all_at_most(probe, 1) {
+        return 6;
+    }
+    if !lists::all_below(cells, points / 3) {
+        return 8;
+    }
+    0
+}
+
+// 1 where Crust keeps the cell i: it is crossed.
+fn crust_mark(crossing: &[u8], i: usize) -> u32
+    ensures { λ r. ⌜ r ≡ unit (crustMark (now (crossing .entry)) i) ⌝ }
+{
+    if links::is_free(crossing, i) {
+        return 0;
+    }
+    1
+}
+
+// 1 where Cover keeps the cell i: it is crossed, or the probe answer of the highest cell of its group is 1.
+fn cover_mark(crossing: &[u8], probe: &[u8], work: &[u32], n: usize, i: usize) -> u32
+    requires { ⌜ ProbeAsked (now crossing) (now probe) (now work) n i ⌝ }
+    ensures { λ r. ⌜ r ≡ unit (coverIn (now (crossing .entry)) (now (probe .entry)) (now (work .entry)) n i) ⌝ }
+{
+    if !links::is_free(crossing, i) {
+        return 1;
+    }
+    let label = groups::label_at(work, n, i);
+    if probe[label] == 0 {
+        return 0;
+    }
+    1
+}
+
+// Marks the cells that Crust keeps, in the entries behind the first n.
+fn mark_crust(cells: &[u32], crossing: &[u8], work: &mut [u32], n: usize)
+    requires { ⌜ Sized (now cells) (now work) n ⌝ }
+    ensures { λ _. ⌜ MarksOf (crustMark (now (crossing .entry))) (now (cells .entry)) (now (work .exit)) n ⌝ }
+{
+    let many = cells.len() / 4;
+    let mut i: usize = 0;
+    while i < many {
+        let mark = crust_mark(crossing, i);
+        let at = n + i;
+        work[at] = mark;
+        i += 1;
+    }
+}
+
+// Marks the cells that Cover keeps, in the entries behind the first n, which had the groups.
+fn mark_cover(cells: &[u32], crossing: &[u8], probe: &[u8], work: &mut [u32], n: usize)
+    requires { ⌜ CoverAsked (now cells) (now crossing) (now probe) (now work) n ⌝ }
+    ensures { λ _. ⌜ MarksOf (coverMark (now (cells .entry)) (now (crossing .entry)) (now (probe .entry)) (cellsOf (now (cells .entry)))) (now (cells .entry)) (now (work .exit)) n ⌝ }
+{
+    let many = cells.len() / 4;
+    let mut i: usize = 0;
+    while i < many {
+        let mark = cover_mark(crossing, probe, work, n, i);
+        let at = n + i;
+        work[at] = mark;
+        i += 1;
+    }
+}
+
+// Keeps the crossed cells.
+fn keep_crossed(
+    points: &[u32],
+    cells: &[u32],
+    crossing: &[u8],
+    kept_points: &mut [u32],
+    kept_cells: &mut [u32],
+    work: &mut [u32],
+    n: usize,
+    least: f32,
+) -> Kept
+    requires { ⌜ Marks (now points) (now cells) (now work) n ⌝ }
+    ensures { λ r. ⌜ KeptMarked (now (points .entry)) (now (cells .entry)) (crustMark (now (crossing .entry))) least (now («kept_points» .entry)) (now («kept_cells» .entry)) r (now («kept_points» .exit)) (now («kept_cells» .exit)) ⌝ }
+{
+    mark_crust(cells, crossing, work, n);
+    compact::keep_marked(points, cells, kept_points, kept_cells, work, n, least)
+}
+
+// Keeps the crossed cells, and those of the groups whose probe answer is 1.
+fn keep_inside(
+    points: &[u32],
+    cells: &[u32],
+    crossing: &[u8],
+    probe: &[u8],
+    kept_points: &mut [u32],
+    kept_cells: &mut [u32],
+    work: &mut [u32],
+    n: usize,
+    least: f32,
+) -> Kept
+    requires { ⌜ KeepAsked (now points) (now cells) (now probe) (now work) n ⌝ }
+    ensures { λ r. ⌜ KeptMarked (now (points .entry)) (now (cells .entry)) (coverMark (now (cells .entry)) (now (crossing .entry)) (now (probe .entry)) (cellsOf (now (cells .entry)))) least (now («kept_points» .entry)) (now («kept_cells» .entry)) r (now («kept_points» .exit)) (now («kept_cells» .exit)) ⌝ }
+{
+    groups::settle(cells, crossing, work, n);
+    mark_cover(cells, crossing, probe, work, n);
+    compact::keep_marked(points, cells, kept_points, kept_cells, work, n, least)
+}
+
+// The mesh of the crossed cells and of those inside. Refused with 1, 4, 5, 6 or 8: all tables are then as lent. With 9, which carries the
+// points and cells needed, where one of the result tables is too short, and with 10 where nothing is kept: these are then as lent, and the
+// first entry a cell and two a point of `work` are zero, as on an answer, which carries the points, the cells, and the cells dropped.
+pub fn keep_cover(
+    c: f32,
+    points: &[u32],
+    cells: &[u32],
+    crossing: &[u8],
+    probe: &[u8],
+    kept_points: &mut [u32],
+    kept_cells: &mut [u32],
+    work: &mut [u32],
+) -> Kept
+    ensures { λ r. ⌜ KeepDone (coverOf c (now (points .entry)) (now (cells .entry)) (now (crossing .entry)) (now (probe .entry)) (now («kept_points» .entry)) (now («kept_cells» .entry)) (now (work .entry))) (now (points .entry)) (now (cells .entry)) (coverCells c (now (points .entry)) (now (cells .entry)) (now (crossing .entry)) (now (probe .entry))) (now («kept_points» .entry)) (now («kept_cells» .entry)) (now (work .entry)) r (now («kept_points» .exit)) (now («kept_cells» .exit)) (now (work .exit)) ⌝ }
+{
+    let n = points.len() / 3;
+    let front = n + cells.len() / 4;
+    let need = front + n;
+    let number = judge_cover(c, points.len(), cells, crossing, probe, work.len(), need);
+    if number != 0 {
+        return Kept::Refused(number);
+    }
+    let least = volume::least_volume(c);
+    let answer = keep_inside(
+        points,
+        cells,
+        crossing,
+        probe,
+        kept_points,
+        kept_cells,
+        &mut work[..front],
+        n,
+        least,
+    );
+    lists::zero(&mut work[..need]);
+    answer
+}
+
+// The mesh of the crossed cells alone, without a probe table; else as `keep_cover`.
+pub fn keep_crust(
+    c: f32,
+    points: &[u32],
+    cells: &[u32],
+    crossing: &[u8],
+    kept_points: &mut [u32],
+    kept_cells: &mut [u32],
+    work: &mut [u32],
+) -> Kept
+    ensures { λ r. ⌜ KeepDone (crustOf c (now (points .entry)) (now (cells .entry)) (now (crossing .entry)) (now («kept_points» .entry)) (now («kept_cells» .entry)) (now (work .entry))) (now (points .entry)) (now (cells .entry)) (crustCells c (now (points .entry)) (now (cells .entry)) (now (crossing .entry))) (now («kept_points» .entry)) (now («kept_cells» .entry)) (now (work .entry)) r (now («kept_points» .exit)) (now («kept_cells» .exit)) (now (work .exit)) ⌝ }
+{
+    let n = points.len() / 3;
+    let front = n + cells.len() / 4;
+    let need = front + n;
+    let number = judge_crust(c, points.len(), cells, crossing, work.len(), need);
+    if number != 0 {
+        return Kept::Refused(number);
+    }
+    let least = volume::least_volume(c);
+    let answer = keep_crossed(
+        points,
+        cells,
+        crossing,
+        kept_points,
+        kept_cells,
+        &mut work[..front],
+        n,
+        least,
+    );
+    lists::zero(&mut work[..need]);
+    answer
+}
