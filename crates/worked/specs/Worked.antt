@@ -12,7 +12,15 @@ use Rattle.grid.specs.Grid.{gridCells, gridVertices}
 use Rattle.plan.specs.declared.Bounds.{Bounds}
 use Rattle.plan.specs.declared.Planned.{Planned}
 use Rattle.plan.specs.declared.Planned.the-variants.{Ready, Refused}
+use Rattle.octants.specs.Table.{refineOf}
+use Rattle.lists.specs.Tables.{cellsOf}
+use Rattle.lists.specs.Runs.{run, those}
+use Rattle.lists.specs.Appearance.{place, noted, seenOf, numbersOf}
+use Rattle.links.specs.Labels.{any, shares, touched, takenOver, addCell, labels, labelAt}
+use Rattle.components.specs.Numbers.{componentNumbers}
+use Rattle.representatives.specs.Highest.{isHighest, representativesOf}
 use Rattle.worked.specs.Octree.{unsplit, octree-six}
+use Rattle.worked.specs.Refinement.{Splits, rootAndChild, childAlone, root-and-child, child-alone}
 
 -- every entry of a list has the property: a proof for each
 data Every {A : Type 0} (P : A → Type 0) : List A → Type 0 where
@@ -34,16 +42,28 @@ data Row : Type 0 where
   planned : (x c levels : ℕ) → Planned → Row
   -- the grid of these levels over d, with a split table: how many cells and vertices it has
   gridded : (levels : ℕ) (d : Pos) (split : List ℕ) (cells vertices : ℕ) → Row
+  -- the refinement over six roots an axis and two levels: how many octants it splits, and the byte of root (1, 1, 1)
+  refined : (crossing : List ℕ) (ones byte : ℕ) → Row
+  -- the representatives of cells, with their crossing answers
+  represented : (cells crossing numbers : List ℕ) → Row
+  -- the component numbers of cells
+  numbered : (cells numbers : List ℕ) → Row
 
 unfoldable Says : Row → Type 0
 Says (planned x c levels answer) = planOf (cube x) (f32 c) levels ≡ answer
 Says (gridded levels d split cells vertices) = (length (gridCells levels d split) ≡ cells) × (length (gridVertices levels d split) ≡ vertices)
+Says (refined crossing ones byte) = Splits (refineOf (pos 6 6 6) 2 crossing) ones byte
+Says (represented cells crossing numbers) = representativesOf cells crossing (cellsOf cells) ≡ numbers
+Says (numbered cells numbers) = componentNumbers cells (cellsOf cells) ≡ numbers
 
 abbrev one : ℕ
 one = 0x3f80_0000
 
 abbrev quarter : ℕ
 quarter = 0x3e80_0000
+
+abbrev chain : List ℕ
+chain = 0 ∷ 1 ∷ 2 ∷ 3 ∷ 3 ∷ 4 ∷ 5 ∷ 6 ∷ 7 ∷ 8 ∷ 9 ∷ 10 ∷ []
 
 unfoldable table : List Row
 table =
@@ -55,13 +75,23 @@ table =
     ∷ planned 0 one 1 (plan 0xc040_0000 quarter 6 1 216)
     -- no crossing: 2,592 cells, 559 vertices
     ∷ gridded 1 (pos 6 6 6) unsplit 2592 559
+    -- the same box, L 2, crossed root (2,2,2) and level-1 (4,4,4): 9 split, root (1,1,1) among them; without the root crossed: 0
+    ∷ refined rootAndChild 9 1
+    ∷ refined childAlone 0 0
     -- c of 0, -0, NaN, infinity: refusal 1
     ∷ planned 0 0 0 (Refused 1)
     ∷ planned 0 0x8000_0000 0 (Refused 1)
     ∷ planned 0 0x7fc0_0000 0 (Refused 1)
     ∷ planned 0 0x7f80_0000 0 (Refused 1)
+    -- cells [0,1,2,3], [3,4,5,6], [7,8,9,10], none crossing: representatives 1 and 2; cell 1 crossing: 0 and 2
+    ∷ represented chain (0 ∷ 0 ∷ 0 ∷ []) (1 ∷ 2 ∷ [])
+    ∷ represented chain (0 ∷ 1 ∷ 0 ∷ []) (0 ∷ 2 ∷ [])
+    -- cells [5,6,7,8], [0,1,2,3], [8,9,10,11]: component numbers 0, 1, 0
+    ∷ numbered (5 ∷ 6 ∷ 7 ∷ 8 ∷ 0 ∷ 1 ∷ 2 ∷ 3 ∷ 8 ∷ 9 ∷ 10 ∷ 11 ∷ []) (0 ∷ 1 ∷ 0 ∷ [])
     ∷ []
 
 worked : Every Says table
-unfolding Says table ofBits add sub mul div neg lt ofInt ceilTo allFinite scaleOf dimsOf fitsOn axisOf octantsOf straight straightBox counted axesOf planOf
-worked = row refl (row refl (row refl (row octree-six (row refl (row refl (row refl (row refl done)))))))
+unfolding Says table ofBits add sub mul div neg lt ofInt ceilTo allFinite scaleOf dimsOf fitsOn axisOf octantsOf straight straightBox counted axesOf planOf run those place noted seenOf numbersOf any shares touched takenOver addCell labels labelAt componentNumbers isHighest representativesOf
+worked =
+    row refl (row refl (row refl (row octree-six (row root-and-child (row child-alone (row refl (row refl (row refl (row refl
+    (row refl (row refl (row refl done))))))))))))
