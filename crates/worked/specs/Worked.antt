@@ -2,7 +2,7 @@
 use mathlib.Core.Path.{_≡_, refl}
 use mathlib.Core.List.{List, [], _∷_}
 use Prim.Native.Nat.{ℕ}
-use lib.ListN.{length}
+use lib.ListN.{length, take}
 use lib.Ieee.{Float, add, sub, mul, div, neg, lt, ofInt, ofBits}
 use Rattle.float32.specs.Operations.{f32}
 use Rattle.float32.specs.Ceiling.{ceilTo}
@@ -19,6 +19,8 @@ use Rattle.lists.specs.Appearance.{place, noted, seenOf, numbersOf}
 use Rattle.links.specs.Labels.{any, shares, touched, takenOver, addCell, labels, labelAt}
 use Rattle.components.specs.Numbers.{componentNumbers}
 use Rattle.representatives.specs.Highest.{isHighest, representativesOf}
+use Rattle.lattice.specs.Lattice.{latticeVertices, latticeCells, latticeTable}
+use Rattle.lattice.specs.Worked.{eight, nine}
 use Rattle.worked.specs.Octree.{unsplit, octree-six}
 use Rattle.worked.specs.Refinement.{Splits, rootAndChild, childAlone, root-and-child, child-alone}
 
@@ -42,6 +44,8 @@ data Row : Type 0 where
   planned : (x c levels : ℕ) → Planned → Row
   -- the grid of these levels over d, with a split table: how many cells and vertices it has
   gridded : (levels : ℕ) (d : Pos) (split : List ℕ) (cells vertices : ℕ) → Row
+  -- the lattice over d: how many vertices and cells it has, and its first cell
+  lattice : (d : Pos) (vertices cells : ℕ) (first : List ℕ) → Row
   -- the refinement over six roots an axis and two levels: how many octants it splits, and the byte of root (1, 1, 1)
   refined : (crossing : List ℕ) (ones byte : ℕ) → Row
   -- the representatives of cells, with their crossing answers
@@ -52,6 +56,7 @@ data Row : Type 0 where
 unfoldable Says : Row → Type 0
 Says (planned x c levels answer) = planOf (cube x) (f32 c) levels ≡ answer
 Says (gridded levels d split cells vertices) = (length (gridCells levels d split) ≡ cells) × (length (gridVertices levels d split) ≡ vertices)
+Says (lattice d vertices cells first) = length (latticeVertices d) ∷ length (latticeCells d) ∷ take 4 (latticeTable d) ≡ vertices ∷ cells ∷ first
 Says (refined crossing ones byte) = Splits (refineOf (pos 6 6 6) 2 crossing) ones byte
 Says (represented cells crossing numbers) = representativesOf cells crossing (cellsOf cells) ≡ numbers
 Says (numbered cells numbers) = componentNumbers cells (cellsOf cells) ≡ numbers
@@ -69,8 +74,12 @@ unfoldable table : List Row
 table =
     -- box all 0, c 1, L 0: dims 8, origin -2, half 0.5
     planned 0 one 0 (plan 0xc000_0000 0x3f00_0000 8 0 0)
+    -- 189 points, 576 cells; the first cell is [125, 126, 31, 26]
+    ∷ lattice (pos 8 8 8) 189 576 (125 ∷ 126 ∷ 31 ∷ 26 ∷ [])
     -- box 0 to 0.25, c 1, L 0: dims 9
     ∷ planned quarter one 0 (plan 0xc000_0000 0x3f00_0000 9 0 0)
+    -- 250 points, 768 cells
+    ∷ lattice (pos 9 9 9) 250 768 (125 ∷ 126 ∷ 31 ∷ 26 ∷ [])
     -- box all 0, c 1, L 1: dims 6, origin -3, half 0.25, N 216
     ∷ planned 0 one 1 (plan 0xc040_0000 quarter 6 1 216)
     -- no crossing: 2,592 cells, 559 vertices
@@ -93,5 +102,5 @@ table =
 worked : Every Says table
 unfolding Says table ofBits add sub mul div neg lt ofInt ceilTo allFinite scaleOf dimsOf fitsOn axisOf octantsOf straight straightBox counted axesOf planOf run those place noted seenOf numbersOf any shares touched takenOver addCell labels labelAt componentNumbers isHighest representativesOf
 worked =
-    row refl (row refl (row refl (row octree-six (row root-and-child (row child-alone (row refl (row refl (row refl (row refl
-    (row refl (row refl (row refl done))))))))))))
+    row refl (row eight (row refl (row nine (row refl (row octree-six (row root-and-child (row child-alone
+    (row refl (row refl (row refl (row refl (row refl (row refl (row refl done))))))))))))))
