@@ -10,8 +10,7 @@ fn write_mesh_of(
     file: &mut [u8],
     work: &mut [u32],
 ) -> usize {
-    let second = tape::fill(tape, at, points);
-    let after = tape::fill(tape, second, cells);
+    let after = tape::fill_mesh(tape, at, points, cells);
     show::answer(sporeferry::sf_write_mesh(points, cells, file, work));
     show::bytes(file);
     show::table(work);

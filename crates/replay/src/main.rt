@@ -26,6 +26,9 @@ fn replay(tape: &[u8], at: usize) -> usize {
     if step == 2 {
         return meshes::one_piece(tape, start);
     }
+    if step == 3 {
+        return octrees::refine(tape, start);
+    }
     if step == 8 {
         return files::write_mesh(tape, start);
     }

@@ -11,8 +11,7 @@ fn components_of(
     numbers: &mut [u32],
     work: &mut [u32],
 ) -> usize {
-    let second = tape::fill(tape, at, points);
-    let after = tape::fill(tape, second, cells);
+    let after = tape::fill_mesh(tape, at, points, cells);
     show::answer(sporeferry::sf_components(points, cells, numbers, work));
     show::table(numbers);
     show::table(work);
@@ -57,8 +56,7 @@ fn one_piece_of(
     cells: &mut [u32],
     work: &mut [u32],
 ) -> usize {
-    let second = tape::fill(tape, at, points);
-    let after = tape::fill(tape, second, cells);
+    let after = tape::fill_mesh(tape, at, points, cells);
     show::answer(sporeferry::sf_one_piece(points, cells, work));
     show::table(work);
     after

@@ -35,3 +35,25 @@ pub fn plan(tape: &[u8], at: usize) -> usize {
     show::end();
     tape::on(at, 8)
 }
+
+fn refine_of(tape: &[u8], at: usize, crossing: &mut [u8], split: &mut [u8]) -> usize {
+    let c = float(tape, tape::on(at, 6));
+    let levels = tape::word(tape, tape::on(at, 7));
+    let after = tape::fill_bytes(tape, tape::on(at, 8), crossing);
+    show::answer(sporeferry::sf_refine(bounds(tape, at), c, levels, crossing, split));
+    show::bytes(split);
+    after
+}
+
+fn refine_in(tape: &[u8], at: usize, crossing: &mut [u8], split: &mut [u8]) -> usize {
+    let n = tape::length(tape, at, crossing.len());
+    let r = tape::length(tape, tape::on(at, 1), split.len());
+    refine_of(tape, tape::on(at, 2), &mut crossing[..n], &mut split[..r])
+}
+
+// Lengths of crossing and split; box, cell size, levels; crossing.
+pub fn refine(tape: &[u8], at: usize) -> usize {
+    let mut crossing = tape::filled_bytes();
+    let mut split = tape::filled_bytes();
+    refine_in(tape, at, &mut crossing, &mut split)
+}

@@ -50,7 +50,13 @@ pub fn fill(tape: &[u8], at: usize, table: &mut [u32]) -> usize {
     on(at, i)
 }
 
-// The same for a table of bytes, each the low byte of a word.
+// Fills the two tables of a mesh.
+pub fn fill_mesh(tape: &[u8], at: usize, points: &mut [u32], cells: &mut [u32]) -> usize {
+    let second = fill(tape, at, points);
+    fill(tape, second, cells)
+}
+
+// Fills a table of bytes, each the low byte of a word.
 pub fn fill_bytes(tape: &[u8], at: usize, table: &mut [u8]) -> usize {
     let mut i: usize = 0;
     while i < table.len() {

@@ -5,7 +5,7 @@ use crate::record::Record;
 use crate::tape::Tape;
 use oracle::calls::{Format, PlanCall};
 use oracle::random::Random;
-use oracle::steps::{boxes, damage, files, keep, meshes, rooms, worked};
+use oracle::steps::{boxes, crossing, damage, files, keep, meshes, refine, rooms, worked};
 
 /// How many random calls of a step are looked at.
 const LOOKED_AT: usize = 3_000;
@@ -31,6 +31,16 @@ fn plans(tape: &mut Tape, random: &mut Random) {
     }
     for _ in 0..200 {
         tape.offer(&boxes::any(random), usize::MAX);
+    }
+}
+
+/// Octrees of one and two levels, lattices, and plans that are refused.
+fn refinements(tape: &mut Tape, random: &mut Random) {
+    for round in 0..60 {
+        let (plan, found) = boxes::small(random, round % 3);
+        let crossing = crossing(random, &found.layout);
+        tape.offer(&refine::perhaps_wrong(random, &plan, &crossing), TAKEN);
+        tape.offer(&refine::refused(random), TAKEN);
     }
 }
 
@@ -60,6 +70,7 @@ pub fn all(seed: u64) -> Tape {
     let mut tape = Tape::default();
     let random = &mut Random::new(seed);
     plans(&mut tape, random);
+    refinements(&mut tape, random);
     offered(&mut tape, random, keep::components);
     offered(&mut tape, random, keep::one_piece);
     writings(&mut tape, random, Format::Mesh);

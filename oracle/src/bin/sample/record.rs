@@ -48,9 +48,9 @@ fn shown(table: &Lent<u32>) -> String {
     }
 }
 
-/// How many entries are zero, of how many.
+/// How many entries from the first on are zero, of how many.
 fn zeros(table: &Lent<u64>) -> String {
-    let zeros = table.all().iter().filter(|entry| **entry == 0).count();
+    let zeros = table.all().iter().take_while(|entry| **entry == 0).count();
     spaced(&[zeros as u64, table.len() as u64])
 }
 
