@@ -4,3 +4,4 @@ pub mod Vertices
 pub mod Octrees
 pub mod Steps
 pub mod Meaning
+pub mod Theorems

@@ -18,18 +18,18 @@ use Rattle.plan.specs.declared.Bounds.{Bounds}
 use Rattle.plan.specs.declared.Plan.{Plan}
 use Rattle.plan.specs.declared.Planned.{Planned}
 use Rattle.plan.specs.declared.Planned.the-variants as planned
-use Rattle.grid.specs.Step.{cellCount, vertexCount, lacksCells, lacksVertices, splitRows, tableRows, gridRows, numberOf, filledOf, gridOf, GridDone}
+use Rattle.grid.specs.Step.{cellCount, vertexCount, lacksCells, lacksVertices, splitRows, tableRows, gridRows, gridNumber, filledOf, gridOf, GridDone}
 use Rattle.grid.specs.declared.Gridded.{Gridded}
 use Rattle.grid.specs.declared.Gridded.the-variants.{Done, Refused, NoCells, NoVertices}
 
 -- the number of what follows the split table's refusals
 filled-number : (p : Plan) (s : List ℕ) (cells triples points work : ℕ)
-    → numberOf (filledOf p s cells triples points work)
+    → gridNumber (filledOf p s cells triples points work)
     ≡ first (9 when lacksCells (cellCount p s) cells work ∷ 9 when lacksVertices (vertexCount p s) triples points ∷ [])
 unfolding filledOf first
 filled-number p s cells triples points work = go (lacksCells (cellCount p s) cells work) (lacksVertices (vertexCount p s) triples points)
   where
-    go : (t u : Bool) → numberOf (cond t (NoCells (cellCount p s)) (cond u (NoVertices (cellCount p s) (vertexCount p s)) (Done (cellCount p s) (vertexCount p s)))) ≡ cond t 9 (cond u 9 0)
+    go : (t u : Bool) → gridNumber (cond t (NoCells (cellCount p s)) (cond u (NoVertices (cellCount p s) (vertexCount p s)) (Done (cellCount p s) (vertexCount p s)))) ≡ cond t 9 (cond u 9 0)
     go true u = refl
     go false true = refl
     go false false = refl
@@ -44,21 +44,21 @@ plan-proper b c levels = refl
 
 module _ (b : Bounds) (c : Float) (levels : ℕ) (s C T P w : List ℕ) where
   -- the number is that of the first row whose cause is there
-  pub number-is : numberOf (gridOf b c levels s C T P w) ≡ first (gridRows b c levels s C T P w)
+  pub number-is : gridNumber (gridOf b c levels s C T P w) ≡ first (gridRows b c levels s C T P w)
   unfolding gridOf
   number-is = go (planOf b c levels) (refusals.number-is b c levels)
     where
       go : (a : Planned) → plan.numberOf a ≡ first (planRows b c levels)
-          → numberOf (onPlan a Refused (λ p. Rattle.lists.specs.Ladder.unless (first (splitRows p s)) Refused (filledOf p s (length C) (length T) (length P) (length w))))
+          → gridNumber (onPlan a Refused (λ p. Rattle.lists.specs.Ladder.unless (first (splitRows p s)) Refused (filledOf p s (length C) (length T) (length P) (length w))))
           ≡ first (planRows b c levels ++ onPlan a (λ n. []) (λ p. tableRows p s (length C) (length T) (length P) (length w)))
       go (planned.Ready p) e =
-          number-rows numberOf Refused (filledOf p s (length C) (length T) (length P) (length w)) (splitRows p s) _ (split-proper p s) (λ k. refl) (filled-number p s (length C) (length T) (length P) (length w))
+          number-rows gridNumber Refused (filledOf p s (length C) (length T) (length P) (length w)) (splitRows p s) _ (split-proper p s) (λ k. refl) (filled-number p s (length C) (length T) (length P) (length w))
           ∙ unfold splitRows in sym (goes-on (planRows b c levels) (tableRows p s (length C) (length T) (length P) (length w)) (plan-proper b c levels) e refl)
       go (planned.Refused n) e = e ∙ ap first (sym (append-nil (planRows b c levels)))
 
   -- a number is given exactly when its cause is there, and none for a lower one
   pub grid-exactly : (k : ℕ) → 0 < k
-      → (numberOf (gridOf b c levels s C T P w) ≡ k) ↔ ((caused k (gridRows b c levels s C T P w) ≡ true) × (lower k (gridRows b c levels s C T P w) ≡ false))
+      → (gridNumber (gridOf b c levels s C T P w) ≡ k) ↔ ((caused k (gridRows b c levels s C T P w) ≡ true) × (lower k (gridRows b c levels s C T P w) ≡ false))
   grid-exactly = exactly (gridRows b c levels s C T P w) rise number-is
     where
       rise : rising 1 (gridRows b c levels s C T P w) ≡ true

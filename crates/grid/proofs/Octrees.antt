@@ -90,21 +90,21 @@ module _ (w L K : List ℕ) (n : ℕ) (h : 10 * n ≤ length w) (el : length L �
 -- ---- the tables
 
 module _ (p : Plan) (s : List ℕ) (h : 1 ≤ p .levels) where
-  octree-cells : gridCells (p .levels) (dimsOf p) s ≡ cells (p .levels) (dimsOf p) (read (dimsOf p) (p .levels) s)
+  pub octree-cells : gridCells (p .levels) (dimsOf p) s ≡ cells (p .levels) (dimsOf p) (read (dimsOf p) (p .levels) s)
   octree-cells = go (p .levels) h
     where
       go : (l : ℕ) → 1 ≤ l → gridCells l (dimsOf p) s ≡ cells l (dimsOf p) (read (dimsOf p) l s)
       go zero g = absurd (omega arith)
       go (suc l) g = unfold gridCells in refl
 
-  octree-vertices : gridVertices (p .levels) (dimsOf p) s ≡ map tripleOf (vertexKeys (p .levels) (dimsOf p) s)
+  pub octree-vertices : gridVertices (p .levels) (dimsOf p) s ≡ map tripleOf (vertexKeys (p .levels) (dimsOf p) s)
   octree-vertices = go (p .levels) h
     where
       go : (l : ℕ) → 1 ≤ l → gridVertices l (dimsOf p) s ≡ map tripleOf (vertexKeys l (dimsOf p) s)
       go zero g = absurd (omega arith)
       go (suc l) g = unfold gridVertices in refl
 
-  octree-number : numberAt (p .levels) (dimsOf p) s ≡ (λ q. rank (keyOf q) (vertexKeys (p .levels) (dimsOf p) s))
+  pub octree-number : numberAt (p .levels) (dimsOf p) s ≡ (λ q. rank (keyOf q) (vertexKeys (p .levels) (dimsOf p) s))
   octree-number = go (p .levels) h
     where
       go : (l : ℕ) → 1 ≤ l → numberAt l (dimsOf p) s ≡ (λ q. rank (keyOf q) (vertexKeys l (dimsOf p) s))
@@ -114,7 +114,7 @@ module _ (p : Plan) (s : List ℕ) (h : 1 ≤ p .levels) where
   pub octree-cell-count : cellCount p s ≡ length (cells (p .levels) (dimsOf p) (read (dimsOf p) (p .levels) s))
   octree-cell-count = ap length octree-cells
 
-  map-length : (l : List ℕ) → length (map tripleOf l) ≡ length l
+  pub map-length : (l : List ℕ) → length (map tripleOf l) ≡ length l
   map-length [] = refl
   map-length (x ∷ l) = ap suc (map-length l)
 

@@ -24,7 +24,7 @@ use Rattle.plan.specs.declared.Plan.{Plan}
 use Rattle.plan.specs.declared.Planned.the-variants as planned
 use Rattle.lattice.specs.Storing.{dimsOf}
 use Rattle.grid.specs.Grid.{cellTable, tripleTable, pointTable}
-use Rattle.grid.specs.Step.{cellCount, vertexCount, lacksCells, lacksVertices, splitRows, filledOf, gridOf, resultAfter, workAfter, Filled, GridDone, Planful}
+use Rattle.grid.specs.Step.{cellCount, vertexCount, lacksCells, lacksVertices, splitRows, filledOf, gridOf, resultAfter, gridWork, Filled, GridDone, Planful}
 use Rattle.grid.specs.Octree.{Stocked}
 use Rattle.grid.specs.declared.Gridded.{Gridded}
 use Rattle.grid.specs.declared.Gridded.the-variants.{Done, Refused, NoCells, NoVertices}

@@ -57,17 +57,17 @@ gridRows b c levels s C T P w =
     planRows b c levels ++ onPlan (planOf b c levels) (λ n. []) (λ p. tableRows p s (length C) (length T) (length P) (length w))
 
 -- document 01's number and values of each answer
-abbrev pub numberOf : Gridded → ℕ
-numberOf (Done cells vertices) = 0
-numberOf (Refused number) = number
-numberOf (NoCells cells) = 9
-numberOf (NoVertices cells vertices) = 9
+abbrev pub gridNumber : Gridded → ℕ
+gridNumber (Done cells vertices) = 0
+gridNumber (Refused number) = number
+gridNumber (NoCells cells) = 9
+gridNumber (NoVertices cells vertices) = 9
 
-abbrev pub valuesOf : Gridded → List ℕ
-valuesOf (Done cells vertices) = cells ∷ vertices ∷ []
-valuesOf (Refused number) = []
-valuesOf (NoCells cells) = cells ∷ 0 ∷ []
-valuesOf (NoVertices cells vertices) = cells ∷ vertices ∷ []
+abbrev pub gridValues : Gridded → List ℕ
+gridValues (Done cells vertices) = cells ∷ vertices ∷ []
+gridValues (Refused number) = []
+gridValues (NoCells cells) = cells ∷ 0 ∷ []
+gridValues (NoVertices cells vertices) = cells ∷ vertices ∷ []
 
 -- the answer of a plan and a split table that are not refused
 unfoldable pub filledOf : Plan → List ℕ → (cells triples points work : ℕ) → Gridded
@@ -90,11 +90,11 @@ resultAfter (NoCells cells) new lent = lent
 resultAfter (NoVertices cells vertices) new lent = lent
 
 -- the work is zero, four entries a cell, on an answer and where there is no room for the vertices, else as lent
-abbrev pub workAfter : Gridded → List ℕ → List ℕ
-workAfter (Done cells vertices) lent = zeroed (4 * cells) lent
-workAfter (Refused number) lent = lent
-workAfter (NoCells cells) lent = lent
-workAfter (NoVertices cells vertices) lent = zeroed (4 * cells) lent
+abbrev pub gridWork : Gridded → List ℕ → List ℕ
+gridWork (Done cells vertices) lent = zeroed (4 * cells) lent
+gridWork (Refused number) lent = lent
+gridWork (NoCells cells) lent = lent
+gridWork (NoVertices cells vertices) lent = zeroed (4 * cells) lent
 
 -- what a plan and a split table that are not refused give
 pub record Filled (p : Plan) (s C T P w : List ℕ) (r : Gridded) (C′ T′ P′ w′ : List ℕ) : Type 0 where
@@ -102,7 +102,7 @@ pub record Filled (p : Plan) (s C T P w : List ℕ) (r : Gridded) (C′ T′ P�
   pub cells : C′ ≡ resultAfter r (cellTable p s) C
   pub triples : T′ ≡ resultAfter r (tripleTable p s) T
   pub points : P′ ≡ resultAfter r (pointTable p s) P
-  pub work : w′ ≡ workAfter r w
+  pub work : w′ ≡ gridWork r w
 
 -- the tables of the plan that is made, where there is one
 abbrev pub planned : Bounds → Float → ℕ → (Plan → List ℕ) → List ℕ
@@ -113,7 +113,7 @@ pub record GridDone (b : Bounds) (c : Float) (levels : ℕ) (s C T P w : List �
   pub cells : C′ ≡ resultAfter (gridOf b c levels s C T P w) (planned b c levels (λ p. cellTable p s)) C
   pub triples : T′ ≡ resultAfter (gridOf b c levels s C T P w) (planned b c levels (λ p. tripleTable p s)) T
   pub points : P′ ≡ resultAfter (gridOf b c levels s C T P w) (planned b c levels (λ p. pointTable p s)) P
-  pub work : w′ ≡ workAfter (gridOf b c levels s C T P w) w
+  pub work : w′ ≡ gridWork (gridOf b c levels s C T P w) w
 
 -- ---- what the parts of the code ask
 
