@@ -136,7 +136,7 @@ fn judge_file(file: &[u8]) -> u32
 }
 
 // Whether one of the tables, whose lengths these are, has no room for so many points and cells.
-fn is_short(points: usize, cells: usize, work: usize, many: usize, n: usize) -> bool
+pub fn is_short(points: usize, cells: usize, work: usize, many: usize, n: usize) -> bool
     requires { ⌜ many ≤ 536870912 ⌝ }
     ensures { λ r. ⌜ r ≡ shortOf points cells work many n ⌝ }
 {

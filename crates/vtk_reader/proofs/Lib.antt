@@ -1,0 +1,3 @@
+-- Laws that the proofs of vtk_reader share.
+pub mod Reading
+pub mod Meaning

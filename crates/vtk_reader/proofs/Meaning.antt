@@ -1,0 +1,232 @@
+-- What the definition of `read_vtk` says. Assumes nothing.
+use mathlib.Core.Path.{_≡_, refl, sym, ap, ap₂, subst, _∙_}
+use mathlib.Core.Logic.{_⊎_, inl, inr, _≢_}
+use mathlib.Core.Bool.{Bool, true, false, cond, not, _||_}
+use mathlib.Core.List.{List, [], _∷_, _++_}
+use Prim.Native.Nat.{ℕ, zero, suc, _+_, _-_, _*_, _/_, _%_, _≤_, _<_}
+use native.Mathlib.Omega.{arith}
+use borrow.Author.Tests.{le-ltb, eq-eqb, ne-eqb}
+use lib.Dec.{eqb, ltb}
+use lib.ListN.{length, getD, take, drop, replicate, length-append, length-replicate, getD-replicate, take-append-drop}
+use lib.Seq.{drop-drop, length-take-le}
+use Rattle.lists.specs.Ladder.{Row, _when_, first, unless}
+use Rattle.lists.specs.Tables.{most, pointsOf, cellsOf, allBelow, listOf, same, front, Determined}
+use Rattle.lists.proofs.Rows.{number-rows, unless-none, unless-some}
+use Rattle.lists.proofs.Cases.{eqOr}
+use Rattle.lists.proofs.Lent.{as-new, determined}
+use Rattle.lists.proofs.Listing.{length-list, list-at, list-is, list-same, same-eq, same-refl}
+use Rattle.words.specs.Words.{bytesOf, wordAt, placeOf, wordsAt}
+use Rattle.words.proofs.Words.{length-bytes, length-words, words-at, words-bytes, words-there}
+use Rattle.components.specs.Numbers.{componentNumbers}
+use Rattle.file_numbers.proofs.Comparing.{length-components, cells-in}
+use Rattle.mesh_file.specs.Read.{shortOf, loadedNumber}
+use Rattle.mesh_file.specs.declared.Loaded.{Loaded}
+use Rattle.mesh_file.specs.declared.Loaded.the-variants as loaded
+use Rattle.mesh_file.proofs.RoundTrip.{Mesh}
+use Rattle.mesh_file.proofs.Meaning.{Room}
+use Rattle.vtk_layout.specs.Layout.{isTitle, written, Laid, locatedOf}
+use Rattle.vtk_layout.specs.File.{ledWord, led, typesOf, vtkFile}
+use Rattle.vtk_layout.specs.declared.Located.{Located}
+use Rattle.vtk_layout.specs.declared.Located.the-variants as located
+use Rattle.vtk_layout.proofs.Sound.{located-laid}
+use Rattle.vtk_layout.proofs.There.{Standing, stands}
+use Rattle.vtk_reader.specs.Read.{stride, marksAt, pointsIn, cellsIn, rightNumbers, bodyRows, readRows, loadedBy, pointsBy, cellsBy, workBy, LoadDone, vtkLoadedOf}
+use Rattle.vtk_reader.proofs.Reading.{Good, good, body-proper}
+
+-- ---- each refusal exactly when, in order
+
+pub read-number-is : (l : Located) (b x y w : List ℕ) → loadedNumber (loadedBy l b x y w) ≡ first (readRows l b x y w)
+unfolding loadedBy first readRows bodyRows shortOf
+read-number-is (located.Stopped k) b x y w = refl
+read-number-is (located.Found p n a c t d) b x y w =
+    number-rows loadedNumber loaded.Refused _ (bodyRows b p n c t) more (body-proper b p n c t) (λ k. refl)
+    (last (ltb (length x / 3) p) (ltb (length y / 4) n) (ltb (length w) (2 * p)) (rightNumbers b n c d))
+  where
+    more : List Row
+    more = 9 when ltb (length x / 3) p ∷ 9 when ltb (length y / 4) n ∷ 9 when ltb (length w) (2 * p) ∷ 13 when not (rightNumbers b n c d) ∷ []
+
+    last : (s q u v : Bool)
+        → loadedNumber (cond (s || (q || u)) (loaded.Short p n) (cond v (loaded.Done p n) (loaded.Refused 13)))
+        ≡ cond s 9 (cond q 9 (cond u 9 (cond (not v) 13 0)))
+    last true q u v = refl
+    last false true u v = refl
+    last false false true v = refl
+    last false false false true = refl
+    last false false false false = refl
+
+-- ---- one outcome only
+
+pub read-one : (b x y w : List ℕ) → Determined (λ (z : Loaded × List ℕ × List ℕ × List ℕ). LoadDone (locatedOf b) b x y w (z .0) (z .1) (z .2) (z .3))
+read-one b x y w = determined (λ z a i. (a .answer i, a .points i, a .cells i, a .work i))
+
+-- ---- the words of the cells, each four led by a four
+
+positive : (k : ℕ) → k ≢ 0 → 0 < k
+positive zero d = absurd (d refl)
+positive (suc k) d = omega arith
+
+-- a word that leads, and one that does not
+lead-word : (C : List ℕ) (i : ℕ) → ledWord C (5 * i) ≡ 4
+unfolding ledWord
+lead-word C i = let e : 5 * i % 5 ≡ 0 = omega arith in rw (eq-eqb (5 * i % 5) 0 e)
+
+cell-word : (C : List ℕ) (j : ℕ) → j % 5 ≢ 0 → ledWord C j ≡ getD C (j / 5 * 4 + j % 5 - 1) 0
+unfolding ledWord
+cell-word C j d = rw (ne-eqb (j % 5) 0 d)
+
+place-word : (C : List ℕ) (i : ℕ) → ledWord C (i + i / 4 + 1) ≡ getD C i 0
+place-word C i =
+    let e : (i + i / 4 + 1) / 5 * 4 + (i + i / 4 + 1) % 5 - 1 ≡ i = omega arith in
+    cell-word C (i + i / 4 + 1) (λ q. omega arith) ∙ ap (λ (k : ℕ). getD C k 0) e
+
+-- words of a block that all have one value
+module _ (led : Bool) (b : List ℕ) (at n v : ℕ) where
+  mark-of : same (marksAt led b at n) (replicate n v) ≡ true → (i : ℕ) → i < n → wordAt true b (at + stride led i) ≡ v
+  unfolding marksAt
+  mark-of s i h =
+      sym (list-at (λ k. wordAt true b (at + stride led k)) n i h)
+      ∙ ap (λ (l : List ℕ). getD l i 0) (same-eq (listOf (λ k. wordAt true b (at + stride led k)) n) (replicate n v) s)
+      ∙ getD-replicate n i v 0 h
+
+  marks-are : ((i : ℕ) → i < n → wordAt true b (at + stride led i) ≡ v) → same (marksAt led b at n) (replicate n v) ≡ true
+  unfolding marksAt
+  marks-are f =
+      ap (λ (l : List ℕ). same l (replicate n v))
+      (list-is (λ k. wordAt true b (at + stride led k)) n (replicate n v) (length-replicate n v) (λ i h. f i h ∙ sym (getD-replicate n i v 0 h)))
+      ∙ same-refl (replicate n v)
+
+module _ (b : List ℕ) (c n : ℕ) where
+  cell-at : (i : ℕ) → i < 4 * n → getD (cellsIn b n c) i 0 ≡ wordAt true b (c + 4 * (i + i / 4 + 1))
+  unfolding placeOf
+  cell-at i h = words-at true true b c (4 * n) i h
+
+  lead-at : same (marksAt true b c n) (replicate n 4) ≡ true → (i : ℕ) → i < n → wordAt true b (c + 20 * i) ≡ 4
+  unfolding stride
+  lead-at s i h = mark-of true b c n 4 s i h
+
+  at-word : same (marksAt true b c n) (replicate n 4) ≡ true → (j : ℕ) → j < 5 * n → (j % 5 ≡ 0) ⊎ (j % 5 ≢ 0) → wordAt true b (c + 4 * j) ≡ ledWord (cellsIn b n c) j
+  at-word s j h (inl z) =
+      let f : c + 4 * j ≡ c + 20 * (j / 5) = omega arith in
+      let g : 5 * (j / 5) ≡ j = omega arith in
+      let k : j / 5 < n = omega arith in
+      ap (wordAt true b) f ∙ lead-at s (j / 5) k ∙ sym (lead-word (cellsIn b n c) (j / 5)) ∙ ap (ledWord (cellsIn b n c)) g
+  at-word s j h (inr z) =
+      let r : 0 < j % 5 = positive (j % 5) z in
+      let f : j ≡ j / 5 * 4 + j % 5 - 1 + (j / 5 * 4 + j % 5 - 1) / 4 + 1 = omega arith in
+      let k : j / 5 * 4 + j % 5 - 1 < 4 * n = omega arith in
+      ap (λ (q : ℕ). wordAt true b (c + 4 * q)) f ∙ sym (cell-at (j / 5 * 4 + j % 5 - 1) k) ∙ sym (cell-word (cellsIn b n c) j z)
+
+  -- the words of the block one behind the other are the cells with their leads
+  led-is : same (marksAt true b c n) (replicate n 4) ≡ true → wordsAt true false b c (5 * n) ≡ led (cellsIn b n c)
+  unfolding wordsAt placeOf led
+  led-is s =
+      list-same (λ j. wordAt true b (c + 4 * j)) (ledWord (cellsIn b n c)) (5 * n) (λ j h. at-word s j h (eqOr (j % 5) 0))
+      ∙ ap (λ (m : ℕ). listOf (ledWord (cellsIn b n c)) (5 * m)) (sym (cells-in true true b c n))
+
+-- ---- only what is written reads: the bytes are those of the mesh, but for the title
+
+module _ (b : List ℕ) (s : allBelow 256 b ≡ true) (p n a c t d : ℕ) (l : Laid b p n a c t d) (g : Good b p n c t) (r : rightNumbers b n c d ≡ true) where
+  count-points : pointsOf (pointsIn b p a) ≡ p
+  count-points = omega (arith, length-words true false b a (3 * p))
+
+  points-bytes : take (12 * p) (drop a b) ≡ bytesOf true (pointsIn b p a)
+  points-bytes =
+      let e : 12 * p ≡ 4 * (3 * p) = omega arith in
+      ap (λ (k : ℕ). take k (drop a b)) e ∙ sym (words-bytes true b a (3 * p) s (omega (arith, l .points-in)))
+
+  cells-bytes : take (20 * n) (drop c b) ≡ bytesOf true (led (cellsIn b n c))
+  cells-bytes =
+      let e : 20 * n ≡ 4 * (5 * n) = omega arith in
+      ap (λ (k : ℕ). take k (drop c b)) e ∙ sym (words-bytes true b c (5 * n) s (omega (arith, l .cells-in))) ∙ ap (bytesOf true) (led-is b c n (g .led))
+
+  types-are : wordsAt true false b t n ≡ typesOf n
+  unfolding wordsAt placeOf stride
+  types-are = list-is (λ i. wordAt true b (t + 4 * i)) n (replicate n 10) (length-replicate n 10) (λ i h. mark-of false b t n 10 (g .typed) i h ∙ sym (getD-replicate n i 10 0 h))
+
+  types-bytes : take (4 * n) (drop t b) ≡ bytesOf true (typesOf n)
+  types-bytes = sym (words-bytes true b t n s (l .types-in)) ∙ ap (bytesOf true) types-are
+
+  numbers-bytes : take (4 * n) (drop d b) ≡ bytesOf true (componentNumbers (cellsIn b n c) n)
+  numbers-bytes = sym (words-bytes true b d n s (l .numbers-in)) ∙ ap (bytesOf true) (same-eq (wordsAt true false b d n) (componentNumbers (cellsIn b n c) n) r)
+
+  bytes-are : b ≡ vtkFile (l .title) (pointsIn b p a) (cellsIn b n c)
+  unfolding vtkFile
+  bytes-are =
+      l .bytes
+      ∙ ap₂ (λ (u v : List ℕ). written (l .title) p n u v (take (4 * n) (drop t b)) (take (4 * n) (drop d b))) points-bytes cells-bytes
+      ∙ ap₂ (λ (u v : List ℕ). written (l .title) p n (bytesOf true (pointsIn b p a)) (bytesOf true (led (cellsIn b n c))) u v) types-bytes numbers-bytes
+      ∙ ap₂ (λ (i j : ℕ). written (l .title) i j (bytesOf true (pointsIn b p a)) (bytesOf true (led (cellsIn b n c))) (bytesOf true (typesOf j)) (bytesOf true (componentNumbers (cellsIn b n c) j)))
+      (sym count-points) (sym (cells-in true true b c n))
+
+-- a file that reads, and the mesh that it reads as
+pub record ReadsAs (b : List ℕ) (p n : ℕ) : Type 0 where
+  pub points : List ℕ
+  pub cells : List ℕ
+  pub title : List ℕ
+  pub plain : isTitle title ≡ true
+  pub count-p : pointsOf points ≡ p
+  pub count-n : cellsOf cells ≡ n
+  pub bytes : b ≡ vtkFile title points cells
+
+reads-found : (b x y w : List ℕ) (p n p′ n′ a c t d : ℕ) → allBelow 256 b ≡ true → Laid b p n a c t d
+    → loadedBy (located.Found p n a c t d) b x y w ≡ loaded.Done p′ n′ → ReadsAs b p′ n′
+unfolding loadedBy
+reads-found b x y w p n p′ n′ a c t d s l e = go (eqOr (first (bodyRows b p n c t)) 0)
+  where
+    inner : Loaded
+    inner = cond (shortOf (length x) (length y) (length w) p n) (loaded.Short p n) (cond (rightNumbers b n c d) (loaded.Done p n) (loaded.Refused 13))
+
+    in-order : first (bodyRows b p n c t) ≡ 0 → (u v : Bool) → rightNumbers b n c d ≡ v
+        → cond u (loaded.Short p n) (cond v (loaded.Done p n) (loaded.Refused 13)) ≡ loaded.Done p′ n′ → ReadsAs b p′ n′
+    in-order z true v r q = let k : _≡_ {A = ℕ} 0 1 = cc in absurd (omega arith)
+    in-order z false false r q = let k : _≡_ {A = ℕ} 0 1 = cc in absurd (omega arith)
+    in-order z false true r q =
+        let ep : p ≡ p′ = cc in
+        let en : n ≡ n′ = cc in
+        let g : Good b p n c t = good b p n c t z in
+        record {
+          points = pointsIn b p a;
+          cells = cellsIn b n c;
+          title = l .title;
+          plain = l .plain;
+          count-p = count-points b s p n a c t d l g r ∙ ep;
+          count-n = cells-in true true b c n ∙ en;
+          bytes = bytes-are b s p n a c t d l g r;
+        }
+
+    go : (first (bodyRows b p n c t) ≡ 0) ⊎ (first (bodyRows b p n c t) ≢ 0) → ReadsAs b p′ n′
+    go (inl z) =
+        in-order z (shortOf (length x) (length y) (length w) p n) (rightNumbers b n c d) refl
+        (sym (unless-none (first (bodyRows b p n c t)) loaded.Refused inner z) ∙ e)
+    go (inr f) =
+        let q : loaded.Refused (first (bodyRows b p n c t)) ≡ loaded.Done p′ n′ = sym (unless-some (first (bodyRows b p n c t)) loaded.Refused inner f) ∙ e in
+        let k : _≡_ {A = ℕ} 0 1 = cc in
+        absurd (omega arith)
+
+stopped-never : (b x y w : List ℕ) (k p n : ℕ) → loadedBy (located.Stopped k) b x y w ≡ loaded.Done p n → ⊥
+unfolding loadedBy
+stopped-never b x y w k p n f = let z : _≡_ {A = ℕ} 0 1 = cc in omega arith
+
+-- bytes that read are those of the mesh that they read as, but for the title
+pub read-is-written : (b x y w : List ℕ) (p n : ℕ) → allBelow 256 b ≡ true → vtkLoadedOf b x y w ≡ loaded.Done p n → ReadsAs b p n
+read-is-written b x y w p n s e = by-layout (locatedOf b) refl e
+  where
+    by-layout : (l : Located) → locatedOf b ≡ l → loadedBy l b x y w ≡ loaded.Done p n → ReadsAs b p n
+    by-layout (located.Stopped k) q f = absurd (stopped-never b x y w k p n f)
+    by-layout (located.Found p′ n′ a c t d) q f = reads-found b x y w p′ n′ p n a c t d s (located-laid b p′ n′ a c t d q) f
+
+-- ---- what is written reads back
+
+-- a block's words, from its bytes
+module _ (b X : List ℕ) (at k : ℕ) (small : allBelow 4294967296 X ≡ true) (long : length X ≡ k) (there : at + 4 * k ≤ length b) where
+  block-words : take (4 * k) (drop at b) ≡ bytesOf true X → wordsAt true false b at k ≡ X
+  block-words e =
+      let f : b ≡ take at b ++ (bytesOf true X ++ drop (at + 4 * k) b) =
+      sym (take-append-drop at b)
+      ∙ ap (λ (l : List ℕ). take at b ++ l) (sym (take-append-drop (4 * k) (drop at b)) ∙ ap₂ (λ (u v : List ℕ). u ++ v) e (drop-drop (4 * k) at b)) in
+      let h : at ≡ length (take at b) = sym (length-take-le at b (omega arith)) in
+      ap (λ (l : List ℕ). wordsAt true false l at k) f ∙ words-there true (take at b) X (drop (at + 4 * k) b) at k h (sym long) small
+
+  word-of : wordsAt true false b at k ≡ X → (i : ℕ) → i < k → wordAt true b (at + 4 * i) ≡ getD X i 0
+  unfolding placeOf
+  word-of e i h = sym (words-at true false b at k i h) ∙ ap (λ (l : List ℕ). getD l i 0) e
