@@ -1,0 +1,3 @@
+-- Laws that the proofs of vtk_file share.
+pub mod Writing
+pub mod Meaning

@@ -1,0 +1,212 @@
+-- The parts of the file stored one behind the other, and the ways out of `write_vtk`. Assumes nothing.
+use mathlib.Core.Path.{_≡_, refl, sym, ap, ap₂, _∙_}
+use mathlib.Core.Logic.{_≢_}
+use mathlib.Core.Bool.{Bool, true, false, cond}
+use mathlib.Core.List.{List, [], _∷_, _++_, append-assoc}
+use Prim.Native.Nat.{ℕ, _+_, _-_, _*_, _/_, _%_, _≤_, _<_}
+use native.Mathlib.Omega.{arith}
+use borrow.Author.Tests.{lt-ltb, le-ltb, eq-eqb, ne-eqb, eqb-true, not-false}
+use lib.Dec.{eqb, ltb}
+use lib.ListN.{length, getD, take, drop, replicate, length-append, length-replicate, getD-replicate}
+use lib.Seq.{sets, length-take-le}
+use Rattle.lists.specs.Ladder.{first, proper, unless}
+use Rattle.lists.specs.Tables.{pointsOf, cellsOf, lengthRows, listOf}
+use Rattle.lists.specs.Runs.{Stored}
+use Rattle.lists.proofs.Rows.{clear, unless-none, unless-some}
+use Rattle.lists.proofs.Lent.{as-lent, as-new}
+use Rattle.lists.proofs.Listing.{list-at, length-list}
+use Rattle.lists.proofs.Parts.{sets-append, sets-whole}
+use Rattle.words.specs.Words.{bytesOf}
+use Rattle.words.proofs.Words.{length-bytes}
+use Rattle.components.specs.Numbers.{componentNumbers, Fits}
+use Rattle.components.specs.Step.{meshRows}
+use Rattle.components.proofs.Steps.{fitting, asks}
+use Rattle.file_numbers.proofs.Comparing.{length-components}
+use Rattle.decimal.specs.Digits.{digits}
+use Rattle.vtk_layout.specs.Layout.{versionLine, ourTitle, feed, datasetLines, floatLine, cellsWord, space, typesWord, dataWord, scalarLines, written}
+use Rattle.vtk_layout.specs.File.{ledWord, led, typesOf, vtkFile}
+use Rattle.vtk_file.specs.Write.{bytesOfCounts, vtkBytes, writtenOf, WriteDone, Storable, Placed}
+use Rattle.vtk_file.specs.declared.Written.{Written}
+use Rattle.vtk_file.specs.declared.Written.the-variants.{Done, Refused, Short}
+
+-- ---- the cells led by fours, and their types
+
+module _ (C : List ℕ) where
+  pub length-led : length (led C) ≡ 5 * cellsOf C
+  unfolding led
+  length-led = length-list (ledWord C) (5 * cellsOf C)
+
+  pub led-at : {x : ℕ} (i : ℕ) → i < 5 * cellsOf C → x ≡ ledWord C i → x ≡ getD (led C) i 0
+  unfolding led
+  led-at i h e = e ∙ sym (list-at (ledWord C) (5 * cellsOf C) i h)
+
+  pub led-four : (i : ℕ) → i % 5 ≡ 0 → 4 ≡ ledWord C i
+  unfolding ledWord
+  led-four i h = sym (rw (eq-eqb _ _ h) refl)
+
+  pub led-vertex : (i : ℕ) → i % 5 ≢ 0 → getD C (i / 5 * 4 + i % 5 - 1) 0 ≡ ledWord C i
+  unfolding ledWord
+  led-vertex i h = sym (rw (ne-eqb _ _ h) refl)
+
+pub type-at : (n i : ℕ) → i < n → _≡_ {A = ℕ} 10 (getD (typesOf n) i 0)
+type-at n i h = sym (getD-replicate n i 10 0 h)
+
+-- ---- the file
+
+-- the texts before the first block
+abbrev pub headLines : List ℕ
+headLines = versionLine ++ (ourTitle ++ (feed ++ datasetLines))
+
+-- one part behind another
+stored-then : {A B o o1 o2 : List ℕ} {at a r : ℕ} → Stored o at A a o1 → Stored o1 a B r o2 → Stored o at (A ++ B) r o2
+stored-then {A} {B} {o} {o1} {o2} {at} {a} {r} p q = record {
+  count = omega (arith, p .count, q .count, length-append A B);
+  kept = q .kept ∙ ap₂ (λ (t : List ℕ) (k : ℕ). sets t k B) (p .kept) (p .count) ∙ sym (sets-append A B o at);
+}
+
+-- a block that was stored
+block : {o o1 : List ℕ} (at r : ℕ) (W : List ℕ) → o1 ≡ sets o at (bytesOf true W) → r ≡ at + 4 * length W → Stored o at (bytesOf true W) r o1
+block at r W e f = record { count = omega (arith, length-bytes true W); kept = e }
+
+pub length-lines : (A : List ℕ) (v : ℕ) (B : List ℕ) → length (A ++ (digits v ++ B)) ≡ length A + length (digits v) + length B
+length-lines A v B = length-append A (digits v ++ B) ∙ omega (arith, length-append (digits v) B)
+
+-- header lines that fit, and where they end
+pub lines-fit : (A : List ℕ) (v : ℕ) (B : List ℕ) (at size : ℕ) → at + length A + length (digits v) + length B ≤ size
+    → at + length (A ++ (digits v ++ B)) ≤ size
+lines-fit A v B at size h = omega (arith, length-lines A v B)
+
+pub lines-end : (A : List ℕ) (v : ℕ) (B : List ℕ) {o o1 : List ℕ} {at r : ℕ} → Stored o at (A ++ (digits v ++ B)) r o1
+    → r ≡ at + length A + length (digits v) + length B
+lines-end A v B s = omega (arith, s .count, length-lines A v B)
+
+-- how long the texts are
+module _ (p n : ℕ) where
+  pub head-long : length (headLines ++ (digits p ++ floatLine)) ≡ 85 + length (digits p)
+  unfolding versionLine ourTitle feed datasetLines floatLine
+  head-long = length-lines headLines p floatLine ∙ omega arith
+
+  pub cells-long : length (cellsWord ++ (digits n ++ space)) ≡ 8 + length (digits n)
+  unfolding cellsWord space
+  cells-long = length-lines cellsWord n space ∙ omega arith
+
+  pub fives-long : length ([] ++ (digits (5 * n) ++ feed)) ≡ 1 + length (digits (5 * n))
+  unfolding feed
+  fives-long = length-lines [] (5 * n) feed ∙ omega arith
+
+  pub types-long : length (typesWord ++ (digits n ++ feed)) ≡ 13 + length (digits n)
+  unfolding typesWord feed
+  types-long = length-lines typesWord n feed ∙ omega arith
+
+  pub numbers-long : length (dataWord ++ (digits n ++ scalarLines)) ≡ 57 + length (digits n)
+  unfolding dataWord scalarLines
+  numbers-long = length-lines dataWord n scalarLines ∙ omega arith
+
+-- the parts as they are stored make up the file
+module _ (P C : List ℕ) where
+  abbrev p : ℕ
+  p = pointsOf P
+
+  abbrev n : ℕ
+  n = cellsOf C
+
+  abbrev parts : List ℕ
+  parts =
+      (headLines ++ (digits p ++ floatLine)) ++ bytesOf true P ++ ((cellsWord ++ (digits n ++ space)) ++ ([] ++ (digits (5 * n) ++ feed))) ++ bytesOf true (led C)
+      ++ (typesWord ++ (digits n ++ feed)) ++ bytesOf true (typesOf n) ++ (dataWord ++ (digits n ++ scalarLines)) ++ bytesOf true (componentNumbers C n) ++ feed
+
+  parts-are : parts ≡ vtkFile ourTitle P C
+  unfolding vtkFile written
+  parts-are = simp append-assoc
+
+  pub length-file : length P ≡ 3 * pointsOf P → length (vtkFile ourTitle P C) ≡ vtkBytes P C
+  length-file h = ap length (sym parts-are) ∙ total
+    where
+      last : length feed ≡ 1
+      last = unfold feed in refl
+
+      total : length parts ≡ vtkBytes P C
+      total =
+          simp length-append
+          (omega (
+            arith,
+            simp length-append at (head-long p n),
+            simp length-append at (cells-long p n),
+            simp length-append at (fives-long p n),
+            simp length-append at (types-long p n),
+            simp length-append at (numbers-long p n),
+            length-bytes true P,
+            length-bytes true (led C),
+            length-led C,
+            length-bytes true (typesOf n),
+            length-replicate {A = ℕ} n 10,
+            length-bytes true (componentNumbers C n),
+            length-components C n,
+            last,
+          ))
+
+  pub mesh-placed : (o w : List ℕ) {o1 o2 o3 o4 o5 o6 o7 o8 o9 o10 w′ : List ℕ} {a b c d e f : ℕ} → Storable P C o w
+      → Stored o 0 (headLines ++ (digits p ++ floatLine)) a o1 → o2 ≡ sets o1 a (bytesOf true P)
+      → Stored o2 (a + 12 * p) (cellsWord ++ (digits n ++ space)) b o3 → Stored o3 b ([] ++ (digits (5 * n) ++ feed)) c o4
+      → o5 ≡ sets o4 c (bytesOf true (led C)) → Stored o5 (c + 20 * n) (typesWord ++ (digits n ++ feed)) d o6
+      → o7 ≡ sets o6 d (bytesOf true (typesOf n)) → Stored o7 (d + 4 * n) (dataWord ++ (digits n ++ scalarLines)) e o8
+      → o9 ≡ sets o8 e (bytesOf true (componentNumbers C n)) → Stored o9 (e + 4 * n) feed f o10
+      → w′ ≡ replicate (length w) 0 → Placed P C o10 w w′
+  mesh-placed o w {a = a} {b = b} {c = c} {d = d} {e = e} {f = f} h e1 e2 e3 e4 e5 e6 e7 e8 e9 e10 ew =
+      let k2 = stored-then e1 (block a (a + 12 * p) P e2 (omega (arith, h .whole))) in
+      let k4 = stored-then k2 (stored-then e3 e4) in
+      let k5 = stored-then k4 (block c (c + 20 * n) (led C) e5 (omega (arith, length-led C))) in
+      let k6 = stored-then k5 e6 in
+      let k7 = stored-then k6 (block d (d + 4 * n) (typesOf n) e7 (omega (arith, length-replicate {A = ℕ} n 10))) in
+      let k8 = stored-then k7 e8 in
+      let k9 = stored-then k8 (block e (e + 4 * n) (componentNumbers C n) e9 (omega (arith, length-components C n))) in
+      let k = stored-then k9 e10 in
+      record {
+        file =
+            k .kept ∙ ap (sets o 0) parts-are
+            ∙ sets-whole (vtkFile ourTitle P C) o (length-file (h .whole) ∙ sym (h .long));
+        zero = ew;
+      }
+
+-- ---- the ways out
+
+module _ (P C o w : List ℕ) where
+  pub refused : {r : ℕ} → r ≡ first (meshRows (length P) C (length w)) → r ≢ 0 → WriteDone P C o w (Refused r) o w
+  unfolding writtenOf
+  refused {r} e d =
+      let a : writtenOf P C o w ≡ Refused r = rw (← e) (unless-some r Refused _ d) in
+      record { answer = sym a; file = rw a (sym (as-lent r _ o d)); work = rw a (sym (as-lent r _ w d)) }
+
+  module _ (z : first (meshRows (length P) C (length w)) ≡ 0) where
+    pub short : {n : ℕ} → n ≡ vtkBytes P C → length o < n → WriteDone P C o w (Short n) o w
+    unfolding writtenOf
+    short {n} e h =
+        let a : writtenOf P C o w ≡ Short n = unless-none _ Refused _ z ∙ rw (← e, lt-ltb _ _ h) refl in
+        record { answer = sym a; file = rw a (sym (as-lent 9 _ o (λ q. omega arith))); work = rw a (sym (as-lent 9 _ w (λ q. omega arith))) }
+
+    whole-points : length P ≡ 3 * pointsOf P
+    unfolding meshRows lengthRows first proper
+    whole-points =
+        let h = clear (meshRows (length P) C (length w)) refl z in
+        let q : length P % 3 ≡ 0 = eqb-true _ _ (not-false _ (h 2)) in
+        omega arith
+
+    -- the parts that are lent on
+    pub storable : {n : ℕ} → n ≡ vtkBytes P C → n ≤ length o → Storable P C (take n o) (take (2 * pointsOf P) w)
+    storable {n} e h =
+        let f = fitting (length P) C (length w) z in
+        record {
+          whole = whole-points;
+          fits = asks (length P) C w f;
+          points = length-take-le (2 * pointsOf P) w (f .work);
+          long = length-take-le n o h ∙ e;
+        }
+
+    pub done : {n : ℕ} {o′ w′ : List ℕ} → n ≡ vtkBytes P C → n ≤ length o → Placed P C o′ (take (2 * pointsOf P) w) w′
+        → WriteDone P C o w (Done n) (o′ ++ drop n o) (w′ ++ drop (2 * pointsOf P) w)
+    unfolding writtenOf
+    done {n} {o′} {w′} e h p =
+        let a : writtenOf P C o w ≡ Done n = unless-none _ Refused _ z ∙ rw (← e, le-ltb _ _ h) refl in
+        let f = fitting (length P) C (length w) z in
+        let zeros : w′ ≡ replicate (2 * pointsOf P) 0 = p .zero ∙ ap (λ (k : ℕ). replicate k 0) (length-take-le (2 * pointsOf P) w (f .work)) in
+        record { answer = sym a; file = rw (a, p .file, e) (sym (as-new [] _ o)); work = rw (a, zeros) (sym (as-new [] _ w)) }

@@ -1,0 +1,2 @@
+-- The definitions that the contracts of vtk_file cite.
+pub mod Write

@@ -1,0 +1,112 @@
+// The viewer's format: a legacy VTK file, version 3.0, binary, with the component numbers as cell data. `write_vtk`.
+ghost use mathlib.Core.Path.{_≡_};
+ghost use mathlib.Core.Bool.{true};
+ghost use Prim.Native.Nat.{ℕ, _+_, _*_, _/_, _≤_, _<_};
+ghost use lib.ListN.{length};
+ghost use lib.Seq.{sets};
+ghost use Rattle.words.specs.Words.{bytesOf};
+ghost use Rattle.vtk_layout.specs.File.{ledWord, led, typesOf};
+ghost use Rattle.vtk_file.specs.Write.{bytesOfCounts, Storable, Placed, WriteDone};
+
+// The outcome of `write_vtk`: the bytes written; refused, with document 01's number; no room for so many bytes.
+pub enum Written {
+    Done(u64),
+    Refused(u32),
+    Short(u64),
+}
+
+// The word number i of the cells, each of which is led by a four.
+fn led_word(cells: &[u32], i: usize) -> u32
+    requires { ⌜ i < length (now cells) + length (now cells) / 4 ⌝ }
+    ensures { λ r. ⌜ r ≡ ledWord (now (cells .entry)) i ⌝ }
+{
+    if i % 5 == 0 {
+        return 4;
+    }
+    cells[i / 5 * 4 + i % 5 - 1]
+}
+
+// Stores the cells, each led by a four.
+fn put_cells(cells: &[u32], file: &mut [u8], at: usize)
+    requires { ⌜ at + 20 * (length (now cells) / 4) ≤ length (now file) ⌝ }
+    ensures { λ _. ⌜ now (file .exit) ≡ sets (now (file .entry)) at (bytesOf true (led (now (cells .entry)))) ⌝ }
+{
+    let many = 5 * (cells.len() / 4);
+    let mut i: usize = 0;
+    while i < many {
+        words::put_word(file, at + 4 * i, true, led_word(cells, i));
+        i += 1;
+    }
+}
+
+// Stores the type of each of n cells: 10, a tetrahedron.
+fn put_types(n: usize, file: &mut [u8], at: usize)
+    requires { ⌜ at + 4 * n ≤ length (now file) ⌝ }
+    ensures { λ _. ⌜ now (file .exit) ≡ sets (now (file .entry)) at (bytesOf true (typesOf n)) ⌝ }
+{
+    let mut i: usize = 0;
+    while i < n {
+        words::put_word(file, at + 4 * i, true, 10);
+        i += 1;
+    }
+}
+
+// Fills a table of exactly its length with the file of a mesh.
+fn put_mesh(points: &[u32], cells: &[u32], file: &mut [u8], work: &mut [u32])
+    requires { ⌜ Storable (now points) (now cells) (now file) (now work) ⌝ }
+    ensures { λ _. ⌜ Placed (now (points .entry)) (now (cells .entry)) (now (file .exit)) (now (work .entry)) (now (work .exit)) ⌝ }
+{
+    let p = points.len() / 3;
+    let n = cells.len() / 4;
+    let a = vtk_layout::put_lines(
+        file,
+        0,
+        b"# vtk DataFile Version 3.0\ncover mesh\nBINARY\nDATASET UNSTRUCTURED_GRID\nPOINTS ",
+        p,
+        b" float\n",
+    );
+    words::put_words(points, file, a, true);
+    let b = vtk_layout::put_lines(file, a + 12 * p, b"\nCELLS ", n, b" ");
+    let c = vtk_layout::put_lines(file, b, b"", 5 * n, b"\n");
+    put_cells(cells, file, c);
+    let d = vtk_layout::put_lines(file, c + 20 * n, b"\nCELL_TYPES ", n, b"\n");
+    put_types(n, file, d);
+    let e = vtk_layout::put_lines(
+        file,
+        d + 4 * n,
+        b"\nCELL_DATA ",
+        n,
+        b"\nSCALARS component int 1\nLOOKUP_TABLE default\n",
+    );
+    file_numbers::put_numbers(cells, file, e, true, work);
+    let _end = decimal::put_text(file, e + 4 * n, b"\n");
+}
+
+// The bytes that the file of a mesh of p points and n cells takes.
+fn bytes_for(p: usize, n: usize) -> usize
+    requires { ⌜ (p ≤ 536870912) × (n ≤ 536870912) ⌝ }
+    ensures { λ r. ⌜ r ≡ bytesOfCounts p n ⌝ }
+{
+    let points = decimal::count_digits(p);
+    let cells = decimal::count_digits(n);
+    let numbers = decimal::count_digits(5 * n);
+    165 + 12 * p + 28 * n + points + 3 * cells + numbers
+}
+
+// Writes the viewer's file of a mesh. Refused with 4, 5 or 8, and with 9 where `file` is shorter than the bytes needed, which it then
+// carries: both tables are then as lent. Answered with the bytes written: the first 2 entries a point of `work` are then zero.
+pub fn write_vtk(points: &[u32], cells: &[u32], file: &mut [u8], work: &mut [u32]) -> Written
+    ensures { λ r. ⌜ WriteDone (now (points .entry)) (now (cells .entry)) (now (file .entry)) (now (work .entry)) r (now (file .exit)) (now (work .exit)) ⌝ }
+{
+    let number = components::judge(points.len(), cells, work.len());
+    if number != 0 {
+        return Written::Refused(number);
+    }
+    let bytes = bytes_for(points.len() / 3, cells.len() / 4);
+    if file.len() < bytes {
+        return Written::Short(bytes as u64);
+    }
+    let need = 2 * (points.len() / 3);
+    put_mesh(points, cells, &mut file[..bytes], &mut work[..need]);
+    Written::Done(bytes as u64)
+}
