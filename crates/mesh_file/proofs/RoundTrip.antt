@@ -101,7 +101,7 @@ seen-le g (suc n) = go (seen-le g n) (ltOr (place (g n) (seenOf g n)) (length (s
     go ih (inl q) = omega (arith, ap length (noted-old (g n) (seenOf g n) q))
     go ih (inr q) = omega (arith, length-noted (g n) (seenOf g n) q)
 
-number-small : (C : List ℕ) (n i : ℕ) → i < n → getD (componentNumbers C n) i 0 ≤ i
+pub number-small : (C : List ℕ) (n i : ℕ) → i < n → getD (componentNumbers C n) i 0 ≤ i
 unfolding componentNumbers
 number-small C n i h =
     omega (arith, number-next (labelAt C [] n) n i h, place-le (labelAt C [] n i) (seenOf (labelAt C [] n) i), seen-le (labelAt C [] n) i)

@@ -13,7 +13,7 @@ use Rattle.lists.specs.Ladder.{Row, _when_, first, unless}
 use Rattle.lists.specs.Tables.{most, pointsOf, cellsOf, allBelow, listOf, same, front, Determined}
 use Rattle.lists.proofs.Rows.{number-rows, unless-none, unless-some}
 use Rattle.lists.proofs.Cases.{eqOr}
-use Rattle.lists.proofs.Lent.{as-new, determined}
+use Rattle.lists.proofs.Lent.{below-at, as-new, determined}
 use Rattle.lists.proofs.Listing.{length-list, list-at, list-is, list-same, same-eq, same-refl}
 use Rattle.words.specs.Words.{bytesOf, wordAt, placeOf, wordsAt}
 use Rattle.words.proofs.Words.{length-bytes, length-words, words-at, words-bytes, words-there}
@@ -22,7 +22,7 @@ use Rattle.file_numbers.proofs.Comparing.{length-components, cells-in}
 use Rattle.mesh_file.specs.Read.{shortOf, loadedNumber}
 use Rattle.mesh_file.specs.declared.Loaded.{Loaded}
 use Rattle.mesh_file.specs.declared.Loaded.the-variants as loaded
-use Rattle.mesh_file.proofs.RoundTrip.{Mesh}
+use Rattle.mesh_file.proofs.RoundTrip.{Mesh, all-below, number-small}
 use Rattle.mesh_file.proofs.Meaning.{Room}
 use Rattle.vtk_layout.specs.Layout.{isTitle, written, Laid, locatedOf}
 use Rattle.vtk_layout.specs.File.{ledWord, led, typesOf, vtkFile}
@@ -230,3 +230,138 @@ module _ (b X : List ℕ) (at k : ℕ) (small : allBelow 4294967296 X ≡ true) 
   word-of : wordsAt true false b at k ≡ X → (i : ℕ) → i < k → wordAt true b (at + 4 * i) ≡ getD X i 0
   unfolding placeOf
   word-of e i h = sym (words-at true false b at k i h) ∙ ap (λ (l : List ℕ). getD l i 0) e
+
+-- a mesh, and its file with any title
+module _ (title P C : List ℕ) (m : Mesh P C) (plain : isTitle title ≡ true) (b : List ℕ) (e : b ≡ vtkFile title P C) where
+  led-long : length (led C) ≡ 5 * cellsOf C
+  unfolding led
+  led-long = length-list (ledWord C) (5 * cellsOf C)
+
+  stood : Standing b (pointsOf P) (cellsOf C) (bytesOf true P) (bytesOf true (led C)) (bytesOf true (typesOf (cellsOf C))) (bytesOf true (componentNumbers C (cellsOf C)))
+  unfolding vtkFile
+  stood =
+      stands title (pointsOf P) (cellsOf C) (bytesOf true P) (bytesOf true (led C)) (bytesOf true (typesOf (cellsOf C))) (bytesOf true (componentNumbers C (cellsOf C))) b plain
+      (omega (arith, m .few-points))
+      (omega (arith, m .few-cells))
+      (omega (arith, length-bytes true P, m .points))
+      (omega (arith, length-bytes true (led C), led-long))
+      (omega (arith, length-bytes true (typesOf (cellsOf C)), length-replicate {A = ℕ} (cellsOf C) 10))
+      (omega (arith, length-bytes true (componentNumbers C (cellsOf C)), length-components C (cellsOf C)))
+      e
+
+  -- the blocks at the places that are found
+  module _ (a c t d : ℕ) (l : Laid b (pointsOf P) (cellsOf C) a c t d)
+      (ep : take (12 * pointsOf P) (drop a b) ≡ bytesOf true P) (ec : take (20 * cellsOf C) (drop c b) ≡ bytesOf true (led C))
+      (et : take (4 * cellsOf C) (drop t b) ≡ bytesOf true (typesOf (cellsOf C))) (ed : take (4 * cellsOf C) (drop d b) ≡ bytesOf true (componentNumbers C (cellsOf C))) where
+    points-read : pointsIn b (pointsOf P) a ≡ P
+    points-read =
+        let k : 4 * (3 * pointsOf P) ≡ 12 * pointsOf P = omega arith in
+        block-words b P a (3 * pointsOf P) (m .bits) (m .points) (omega (arith, l .points-in)) (ap (λ (j : ℕ). take j (drop a b)) k ∙ ep)
+
+    led-small : allBelow 4294967296 (led C) ≡ true
+    unfolding led
+    led-small = all-below 4294967296 (led C) (λ i h. small i (omega (arith, led-long)) (eqOr (i % 5) 0))
+      where
+        small : (i : ℕ) → i < 5 * cellsOf C → (i % 5 ≡ 0) ⊎ (i % 5 ≢ 0) → getD (led C) i 0 < 4294967296
+        small i h (inl z) =
+            let g : 5 * (i / 5) ≡ i = omega arith in
+            omega (arith, list-at (ledWord C) (5 * cellsOf C) i h, lead-word C (i / 5), ap (ledWord C) g)
+        small i h (inr z) =
+            let r : 0 < i % 5 = positive (i % 5) z in
+            omega (arith, list-at (ledWord C) (5 * cellsOf C) i h, cell-word C i z, below-at (pointsOf P) C (m .names) (i / 5 * 4 + i % 5 - 1) (omega (arith, m .cells)), m .few-points)
+
+    led-read : (j : ℕ) → j < 5 * cellsOf C → wordAt true b (c + 4 * j) ≡ ledWord C j
+    unfolding led
+    led-read j h =
+        let k : 4 * (5 * cellsOf C) ≡ 20 * cellsOf C = omega arith in
+        let f : c + 4 * (5 * cellsOf C) ≤ length b = omega (arith, l .cells-in) in
+        let w : wordsAt true false b c (5 * cellsOf C) ≡ led C = block-words b (led C) c (5 * cellsOf C) led-small led-long f (ap (λ (i : ℕ). take i (drop c b)) k ∙ ec) in
+        word-of b (led C) c (5 * cellsOf C) led-small led-long f w j h ∙ list-at (ledWord C) (5 * cellsOf C) j h
+
+    cells-read : cellsIn b (cellsOf C) c ≡ C
+    unfolding wordsAt placeOf
+    cells-read =
+        list-is (λ i. wordAt true b (c + 4 * (i + i / 4 + 1))) (4 * cellsOf C) C (m .cells)
+        (λ i h. led-read (i + i / 4 + 1) (omega arith) ∙ place-word C i)
+
+    leads-right : same (marksAt true b c (cellsOf C)) (replicate (cellsOf C) 4) ≡ true
+    unfolding stride
+    leads-right =
+        marks-are true b c (cellsOf C) 4
+        (λ i h. let k : c + 20 * i ≡ c + 4 * (5 * i) = omega arith in ap (wordAt true b) k ∙ led-read (5 * i) (omega arith) ∙ lead-word C i)
+
+    types-small : allBelow 4294967296 (typesOf (cellsOf C)) ≡ true
+    types-small = all-below 4294967296 (typesOf (cellsOf C)) (λ i h. let k : i < cellsOf C = omega (arith, length-replicate {A = ℕ} (cellsOf C) 10) in omega (arith, getD-replicate {A = ℕ} (cellsOf C) i 10 0 k))
+
+    types-right : same (marksAt false b t (cellsOf C)) (replicate (cellsOf C) 10) ≡ true
+    unfolding stride
+    types-right =
+        marks-are false b t (cellsOf C) 10
+        (λ i h.
+        word-of b (typesOf (cellsOf C)) t (cellsOf C) types-small (length-replicate (cellsOf C) 10) (l .types-in)
+        (block-words b (typesOf (cellsOf C)) t (cellsOf C) types-small (length-replicate (cellsOf C) 10) (l .types-in) et) i h
+        ∙ getD-replicate (cellsOf C) i 10 0 h)
+
+    numbers-small : allBelow 4294967296 (componentNumbers C (cellsOf C)) ≡ true
+    numbers-small =
+        all-below 4294967296 (componentNumbers C (cellsOf C))
+        (λ i h. let k : i < cellsOf C = omega (arith, length-components C (cellsOf C)) in omega (arith, m .few-cells, number-small C (cellsOf C) i k))
+
+    numbers-right : rightNumbers b (cellsOf C) c d ≡ true
+    numbers-right =
+        ap₂ same
+        (block-words b (componentNumbers C (cellsOf C)) d (cellsOf C) numbers-small (length-components C (cellsOf C)) (l .numbers-in) ed)
+        (ap (λ (y : List ℕ). componentNumbers y (cellsOf C)) cells-read)
+        ∙ same-refl (componentNumbers C (cellsOf C))
+
+    rows-clear : first (bodyRows b (pointsOf P) (cellsOf C) c t) ≡ 0
+    unfolding bodyRows first
+    rows-clear =
+        rw (leads-right, types-right, le-ltb most (pointsOf P) (m .few-points), le-ltb most (cellsOf C) (m .few-cells), ap (allBelow (pointsOf P)) cells-read ∙ m .names) refl
+
+    module _ (x y w : List ℕ) (r : Room x y w (pointsOf P) (cellsOf C)) where
+      roomy-now : shortOf (length x) (length y) (length w) (pointsOf P) (cellsOf C) ≡ false
+      unfolding shortOf
+      roomy-now = rw (le-ltb _ _ (r .x-room), le-ltb _ _ (r .y-room), le-ltb _ _ (r .w-room)) refl
+
+      loads : loadedBy (located.Found (pointsOf P) (cellsOf C) a c t d) b x y w ≡ loaded.Done (pointsOf P) (cellsOf C)
+      unfolding loadedBy
+      loads = unless-none _ loaded.Refused _ rows-clear ∙ rw (roomy-now, numbers-right) refl
+
+      loads-points : pointsBy (located.Found (pointsOf P) (cellsOf C) a c t d) b x y w ≡ front (length P) P x
+      unfolding pointsBy
+      loads-points = rw loads (as-new [] _ x) ∙ ap₂ (λ (k : ℕ) (s : List ℕ). front k s x) (sym (m .points)) points-read
+
+      loads-cells : cellsBy (located.Found (pointsOf P) (cellsOf C) a c t d) b x y w ≡ front (length C) C y
+      unfolding cellsBy
+      loads-cells = rw loads (as-new [] _ y) ∙ ap₂ (λ (k : ℕ) (s : List ℕ). front k s y) (sym (m .cells)) cells-read
+
+-- what is written reads back as the same mesh, whatever its title
+module _ (title P C : List ℕ) (m : Mesh P C) (plain : isTitle title ≡ true) (x y w : List ℕ) (r : Room x y w (pointsOf P) (cellsOf C)) where
+  b : List ℕ
+  b = vtkFile title P C
+
+  s : Standing b (pointsOf P) (cellsOf C) (bytesOf true P) (bytesOf true (led C)) (bytesOf true (typesOf (cellsOf C))) (bytesOf true (componentNumbers C (cellsOf C)))
+  unfolding b
+  s = stood title P C m plain b refl
+
+  l : Laid b (pointsOf P) (cellsOf C) (s .points) (s .cells) (s .types) (s .numbers)
+  l = located-laid b (pointsOf P) (cellsOf C) (s .points) (s .cells) (s .types) (s .numbers) (s .found)
+
+  pub written-reads : vtkLoadedOf (vtkFile title P C) x y w ≡ loaded.Done (pointsOf P) (cellsOf C)
+  unfolding b
+  written-reads =
+      ap (λ (k : Located). loadedBy k b x y w) (s .found)
+      ∙ loads title P C m plain b refl (s .points) (s .cells) (s .types) (s .numbers) l (s .points-are) (s .cells-are) (s .types-are) (s .numbers-are) x y w r
+
+  pub written-points : pointsBy (locatedOf (vtkFile title P C)) (vtkFile title P C) x y w ≡ front (length P) P x
+  unfolding b
+  written-points =
+      ap (λ (k : Located). pointsBy k b x y w) (s .found)
+      ∙ loads-points title P C m plain b refl (s .points) (s .cells) (s .types) (s .numbers) l (s .points-are) (s .cells-are) (s .types-are) (s .numbers-are) x y w r
+
+  pub written-cells : cellsBy (locatedOf (vtkFile title P C)) (vtkFile title P C) x y w ≡ front (length C) C y
+  unfolding b
+  written-cells =
+      ap (λ (k : Located). cellsBy k b x y w) (s .found)
+      ∙ loads-cells title P C m plain b refl (s .points) (s .cells) (s .types) (s .numbers) l (s .points-are) (s .cells-are) (s .types-are) (s .numbers-are) x y w r
