@@ -1,0 +1,48 @@
+-- `sporeferry::of_vtk_written` meets its contract. Assumes nothing.
+use borrow.Author.Needs.{needs}
+use Rattle.sporeferry.proofs.of_vtk_written.Statement.{statement}
+use Rattle.sporeferry.proofs.of_vtk_written.Tie as tie
+use Rattle.sporeferry.proofs.of_vtk_written.Reads as reads
+use Rattle.sporeferry.proofs.of_vtk_written.Lts as lts
+use Rattle.sporeferry.proofs.values.Reads as values-reads
+
+enum-known-a : tie.Need-enum-known-a
+enum-known-a c = search needs
+
+values-requires : tie.Need-values-requires
+values-requires c κs = search needs
+
+enum-known-a-2 : tie.Need-enum-known-a-2
+enum-known-a-2 c = search needs
+
+values-requires-2 : tie.Need-values-requires-2
+values-requires-2 c κs = search needs
+
+enum-known-a-3 : tie.Need-enum-known-a-3
+enum-known-a-3 c = search needs
+
+values-requires-3 : tie.Need-values-requires-3
+values-requires-3 c κs = search needs
+
+returns : tie.Need-returns
+returns c = rw (c .before .before .a .given .1) (c .values .ensures)
+
+returns-2 : tie.Need-returns-2
+returns-2 c = rw (c .before .before .a2 .given .1) (c .values2 .ensures)
+
+returns-3 : tie.Need-returns-3
+returns-3 c = rw (c .before .before .a3 .given .1) (c .values3 .ensures)
+
+pub of-vtk-written-spec : {M : Type 1} → statement M
+of-vtk-written-spec =
+    tie.close
+    (tie.spec
+    enum-known-a
+    values-requires
+    enum-known-a-2
+    values-requires-2
+    enum-known-a-3
+    values-requires-3
+    returns
+    returns-2
+    returns-3)
