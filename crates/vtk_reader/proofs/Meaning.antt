@@ -159,7 +159,7 @@ module _ (b : List ℕ) (s : allBelow 256 b ≡ true) (p n a c t d : ℕ) (l : L
       (sym count-points) (sym (cells-in true true b c n))
 
 -- a file that reads, and the mesh that it reads as
-pub record ReadsAs (b : List ℕ) (p n : ℕ) : Type 0 where
+pub record ReadsAs (b x y w : List ℕ) (p n : ℕ) : Type 0 where
   pub points : List ℕ
   pub cells : List ℕ
   pub title : List ℕ
@@ -167,17 +167,29 @@ pub record ReadsAs (b : List ℕ) (p n : ℕ) : Type 0 where
   pub count-p : pointsOf points ≡ p
   pub count-n : cellsOf cells ≡ n
   pub bytes : b ≡ vtkFile title points cells
+  pub stores-points : pointsBy (locatedOf b) b x y w ≡ front (3 * p) points x
+  pub stores-cells : cellsBy (locatedOf b) b x y w ≡ front (4 * n) cells y
 
-reads-found : (b x y w : List ℕ) (p n p′ n′ a c t d : ℕ) → allBelow 256 b ≡ true → Laid b p n a c t d
-    → loadedBy (located.Found p n a c t d) b x y w ≡ loaded.Done p′ n′ → ReadsAs b p′ n′
+-- what an answer stores
+module _ (b x y w : List ℕ) (p n p′ n′ a c t d : ℕ) (e : loadedBy (located.Found p n a c t d) b x y w ≡ loaded.Done p′ n′) where
+  stored-points : pointsBy (located.Found p n a c t d) b x y w ≡ front (3 * p) (pointsIn b p a) x
+  unfolding pointsBy
+  stored-points = rw e (as-new [] _ x)
+
+  stored-cells : cellsBy (located.Found p n a c t d) b x y w ≡ front (4 * n) (cellsIn b n c) y
+  unfolding cellsBy
+  stored-cells = rw e (as-new [] _ y)
+
+reads-found : (b x y w : List ℕ) (p n p′ n′ a c t d : ℕ) → allBelow 256 b ≡ true
+    → locatedOf b ≡ located.Found p n a c t d → Laid b p n a c t d → loadedBy (located.Found p n a c t d) b x y w ≡ loaded.Done p′ n′ → ReadsAs b x y w p′ n′
 unfolding loadedBy
-reads-found b x y w p n p′ n′ a c t d s l e = go (eqOr (first (bodyRows b p n c t)) 0)
+reads-found b x y w p n p′ n′ a c t d s q₀ l e = go (eqOr (first (bodyRows b p n c t)) 0)
   where
     inner : Loaded
     inner = cond (shortOf (length x) (length y) (length w) p n) (loaded.Short p n) (cond (rightNumbers b n c d) (loaded.Done p n) (loaded.Refused 13))
 
     in-order : first (bodyRows b p n c t) ≡ 0 → (u v : Bool) → rightNumbers b n c d ≡ v
-        → cond u (loaded.Short p n) (cond v (loaded.Done p n) (loaded.Refused 13)) ≡ loaded.Done p′ n′ → ReadsAs b p′ n′
+        → cond u (loaded.Short p n) (cond v (loaded.Done p n) (loaded.Refused 13)) ≡ loaded.Done p′ n′ → ReadsAs b x y w p′ n′
     in-order z true v r q = let k : _≡_ {A = ℕ} 0 1 = cc in absurd (omega arith)
     in-order z false false r q = let k : _≡_ {A = ℕ} 0 1 = cc in absurd (omega arith)
     in-order z false true r q =
@@ -192,9 +204,11 @@ reads-found b x y w p n p′ n′ a c t d s l e = go (eqOr (first (bodyRows b p 
           count-p = count-points b s p n a c t d l g r ∙ ep;
           count-n = cells-in true true b c n ∙ en;
           bytes = bytes-are b s p n a c t d l g r;
+          stores-points = ap (λ (k : Located). pointsBy k b x y w) q₀ ∙ stored-points b x y w p n p′ n′ a c t d e ∙ ap (λ (k : ℕ). front (3 * k) (pointsIn b p a) x) ep;
+          stores-cells = ap (λ (k : Located). cellsBy k b x y w) q₀ ∙ stored-cells b x y w p n p′ n′ a c t d e ∙ ap (λ (k : ℕ). front (4 * k) (cellsIn b n c) y) en;
         }
 
-    go : (first (bodyRows b p n c t) ≡ 0) ⊎ (first (bodyRows b p n c t) ≢ 0) → ReadsAs b p′ n′
+    go : (first (bodyRows b p n c t) ≡ 0) ⊎ (first (bodyRows b p n c t) ≢ 0) → ReadsAs b x y w p′ n′
     go (inl z) =
         in-order z (shortOf (length x) (length y) (length w) p n) (rightNumbers b n c d) refl
         (sym (unless-none (first (bodyRows b p n c t)) loaded.Refused inner z) ∙ e)
@@ -208,12 +222,12 @@ unfolding loadedBy
 stopped-never b x y w k p n f = let z : _≡_ {A = ℕ} 0 1 = cc in omega arith
 
 -- bytes that read are those of the mesh that they read as, but for the title
-pub read-is-written : (b x y w : List ℕ) (p n : ℕ) → allBelow 256 b ≡ true → vtkLoadedOf b x y w ≡ loaded.Done p n → ReadsAs b p n
+pub read-is-written : (b x y w : List ℕ) (p n : ℕ) → allBelow 256 b ≡ true → vtkLoadedOf b x y w ≡ loaded.Done p n → ReadsAs b x y w p n
 read-is-written b x y w p n s e = by-layout (locatedOf b) refl e
   where
-    by-layout : (l : Located) → locatedOf b ≡ l → loadedBy l b x y w ≡ loaded.Done p n → ReadsAs b p n
+    by-layout : (l : Located) → locatedOf b ≡ l → loadedBy l b x y w ≡ loaded.Done p n → ReadsAs b x y w p n
     by-layout (located.Stopped k) q f = absurd (stopped-never b x y w k p n f)
-    by-layout (located.Found p′ n′ a c t d) q f = reads-found b x y w p′ n′ p n a c t d s (located-laid b p′ n′ a c t d q) f
+    by-layout (located.Found p′ n′ a c t d) q f = reads-found b x y w p′ n′ p n a c t d s q (located-laid b p′ n′ a c t d q) f
 
 -- ---- what is written reads back
 
