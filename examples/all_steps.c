@@ -112,18 +112,26 @@ int main(void) {
          sf_components(kept_points, points_len, kept_cells, cells_len, numbers, cells, work, work_len));
     told("one_piece", sf_one_piece(kept_points, points_len, kept_cells, cells_len, work, work_len));
 
-    /* To a file and back. */
+    /* To a file and back, and to a viewer's file and back. */
+    float *points_read = table(points_len, sizeof *points_read);
+    uint32_t *cells_read = table(cells_len, sizeof *cells_read);
     size_t bytes = 12 + 12 * kept.first + 20 * kept.second;
     uint8_t *file = table(bytes, 1);
     told("write_mesh", sf_write_mesh(kept_points, points_len, kept_cells, cells_len, file, bytes, work, work_len));
-    float *points_read = table(points_len, sizeof *points_read);
-    uint32_t *cells_read = table(cells_len, sizeof *cells_read);
     told("read_mesh", sf_read_mesh(file, bytes, points_read, points_len, cells_read, cells_len, work, work_len));
     int same = memcmp(points_read, kept_points, 4 * points_len) == 0 && memcmp(cells_read, kept_cells, 4 * cells_len) == 0;
+
+    need = sf_write_vtk(kept_points, points_len, kept_cells, cells_len, NULL, 0, work, work_len);
+    if (need.number != 9) return 1;
+    uint8_t *viewed = table(need.first, 1);
+    told("write_vtk", sf_write_vtk(kept_points, points_len, kept_cells, cells_len, viewed, need.first, work, work_len));
+    memset(cells_read, 0, 4 * cells_len);
+    told("read_vtk", sf_read_vtk(viewed, need.first, points_read, points_len, cells_read, cells_len, work, work_len));
+    same = same && memcmp(cells_read, kept_cells, 4 * cells_len) == 0;
     printf("%-15s %s\n", "read back", same ? "the same mesh" : "another mesh");
 
     void *rooms[] = {crossing, split, grid, triples, points, crossed, probe, work, numbers, centroids, kept_points,
-                     kept_cells, file, points_read, cells_read};
+                     kept_cells, file, viewed, points_read, cells_read};
     for (size_t n = 0; n < sizeof rooms / sizeof *rooms; n++) free(rooms[n]);
     return same ? 0 : 1;
 }

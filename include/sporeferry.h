@@ -40,6 +40,8 @@
  *   11  the file ends inside a count or a section
  *   12  bytes after the last section
  *   13  the component numbers of the file are not those the writer gives
+ *   14  a VTK file departs from the layout
+ *   15  a cell of a VTK file is not of type 10, or not led by a four
  *
  * Result and work tables
  *   A result table is as it was lent after every refusal: there is never a part of a result. After an answer its first
@@ -180,6 +182,28 @@ sf_answer sf_read_mesh(const uint8_t *file, size_t file_len,
                        float *points, size_t points_len,
                        uint32_t *cells, size_t cells_len,
                        uint32_t *work, size_t work_len);
+
+/* The mesh as a legacy VTK file, version 3.0, BINARY, UNSTRUCTURED_GRID, titled "cover mesh": every number big-endian,
+ * every cell led by a four and of type 10, the component numbers as cell data.
+ * Answer: first = bytes written. Work is zero.
+ * Work needed: 2 * points entries.
+ * Refusals: 4; 5 points_len not by 3, cells_len not by 4, or work short; 8; 9 file short, first = bytes. */
+sf_answer sf_write_vtk(const float *points, size_t points_len,
+                       const uint32_t *cells, size_t cells_len,
+                       uint8_t *file, size_t file_len,
+                       uint32_t *work, size_t work_len);
+
+/* The mesh of a VTK file of exactly that layout, under any title of at most 256 bytes, its line feed included. The title
+ * is not answered.
+ * Answer: first = points, second = cells; the mesh. Work is zero.
+ * Work needed: 2 * points entries.
+ * Refusals, in this order: read from the front, 14 at the first byte of a header line, count or line feed that departs
+ * from the layout, or 11 if the file ends before any does; 12; 15; 4; 8; 9 points, cells or work short, first = points,
+ * second = cells; 13, and then work is zero. To size the tables, ask with empty ones first. */
+sf_answer sf_read_vtk(const uint8_t *file, size_t file_len,
+                      float *points, size_t points_len,
+                      uint32_t *cells, size_t cells_len,
+                      uint32_t *work, size_t work_len);
 
 #ifdef __cplusplus
 }

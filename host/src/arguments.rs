@@ -19,6 +19,10 @@ sporeferry covers a part with tetrahedra.
   sporeferry info FILE.mesh
       Say what a mesh file holds, or why it does not read.
 
+  sporeferry vtk FILE.mesh -o FILE.vtk
+  sporeferry mesh FILE.vtk -o FILE.mesh
+      Write a mesh file as a legacy VTK file for a viewer, and back.
+
   sporeferry --help
       Print this.
 
@@ -30,6 +34,15 @@ pub enum Command {
     Help,
     Cover(CoverOrder),
     Info(PathBuf),
+    ToVtk(Files),
+    ToMesh(Files),
+}
+
+/// The file to read and the file to write.
+#[derive(Debug)]
+pub struct Files {
+    pub input: PathBuf,
+    pub output: PathBuf,
 }
 
 #[derive(Debug)]
@@ -51,6 +64,8 @@ pub fn parse(words: impl Iterator<Item = OsString>) -> Result<Command, String> {
     match command.to_str() {
         Some("cover") => cover(rest).map(Command::Cover),
         Some("info") => info(rest).map(Command::Info),
+        Some("vtk") => files("vtk", rest).map(Command::ToVtk),
+        Some("mesh") => files("mesh", rest).map(Command::ToMesh),
         _ => Err(format!("there is no command {}", command.display())),
     }
 }
@@ -60,6 +75,18 @@ fn info(words: &[OsString]) -> Result<PathBuf, String> {
         [file] if !is_option(file) => Ok(file.into()),
         [file] => Err(format!("info has no option {}", file.display())),
         _ => Err("info takes one file".into()),
+    }
+}
+
+fn files(command: &str, words: &[OsString]) -> Result<Files, String> {
+    match words {
+        [input, option, output] if option == "-o" => {
+            Ok(Files { input: input.into(), output: output.into() })
+        }
+        [option, output, input] if option == "-o" => {
+            Ok(Files { input: input.into(), output: output.into() })
+        }
+        _ => Err(format!("{command} takes a file, -o and the file to write")),
     }
 }
 
@@ -144,7 +171,9 @@ mod tests {
     fn what_is_missing_doubled_or_unknown_is_said() {
         for (words, sentence) in [
             ("", "a command is missing"),
-            ("mesh", "there is no command mesh"),
+            ("smooth", "there is no command smooth"),
+            ("vtk a.mesh", "vtk takes a file, -o and the file to write"),
+            ("mesh a.vtk -o", "mesh takes a file, -o and the file to write"),
             ("cover", "cover needs an STL file"),
             ("cover a.stl --cell 1", "cover needs -o and the mesh file to write"),
             ("cover a.stl -o b", "cover needs --cell and the cell size"),
@@ -160,6 +189,17 @@ mod tests {
         ] {
             assert_eq!(parsed(words).err().as_deref(), Some(sentence), "{words}");
         }
+    }
+
+    #[test]
+    fn files_are_understood_in_either_order() {
+        for words in ["vtk a.mesh -o a.vtk", "vtk -o a.vtk a.mesh"] {
+            let Ok(Command::ToVtk(files)) = parsed(words) else {
+                panic!("{words} was not understood");
+            };
+            assert_eq!((files.input, files.output), ("a.mesh".into(), "a.vtk".into()));
+        }
+        assert!(matches!(parsed("mesh a.vtk -o b"), Ok(Command::ToMesh(_))));
     }
 
     #[test]

@@ -1,12 +1,12 @@
 //! What the tool does: each command gives the text to print, or one sentence that says why not.
 
-use crate::arguments::CoverOrder;
+use crate::arguments::{CoverOrder, Files};
 use crate::numbers::{grouped, measure};
 use sporeferry::cover::Covered;
 use sporeferry::inside::enclosed_volume;
 use sporeferry::part::Part;
 use sporeferry::whole_file::{check_place, write_whole};
-use sporeferry::{Bounds, Mesh};
+use sporeferry::{Bounds, Mesh, Refusal};
 use std::fmt::Display;
 use std::fs;
 use std::path::Path;
@@ -44,6 +44,34 @@ pub fn info(path: &Path) -> Result<String, String> {
     report.line("pieces", grouped(pieces));
     report.line("box", box_of(&mesh));
     report.line("volume", measure(mesh.volume()));
+    Ok(report.0)
+}
+
+/// Writes a mesh file as a VTK file.
+pub fn to_vtk(files: &Files) -> Result<String, String> {
+    convert(files, Mesh::from_bytes, Mesh::to_vtk)
+}
+
+/// Writes a VTK file as a mesh file.
+pub fn to_mesh(files: &Files) -> Result<String, String> {
+    convert(files, Mesh::from_vtk, Mesh::to_bytes)
+}
+
+fn convert(
+    files: &Files,
+    read: impl Fn(&[u8]) -> Result<Mesh, Refusal>,
+    write: impl Fn(&Mesh) -> Result<Vec<u8>, Refusal>,
+) -> Result<String, String> {
+    let (input, output) = (files.input.as_path(), files.output.as_path());
+    let bytes = read_for(input, output)?;
+    let mesh = read(&bytes).map_err(about(input))?;
+    let file = write(&mesh).map_err(about(output))?;
+    write_whole(output, &file).map_err(about(output))?;
+
+    let mut report = Report::default();
+    report.line("points", grouped(mesh.points.len()));
+    report.line("cells", grouped(mesh.cells.len()));
+    report.file(output, &file);
     Ok(report.0)
 }
 

@@ -169,6 +169,28 @@ extern "C" {
         work: *mut u32,
         work_len: usize,
     ) -> Answer;
+
+    fn sf_write_vtk(
+        points: *const f32,
+        points_len: usize,
+        cells: *const u32,
+        cells_len: usize,
+        file: *mut u8,
+        file_len: usize,
+        work: *mut u32,
+        work_len: usize,
+    ) -> Answer;
+
+    fn sf_read_vtk(
+        file: *const u8,
+        file_len: usize,
+        points: *mut f32,
+        points_len: usize,
+        cells: *mut u32,
+        cells_len: usize,
+        work: *mut u32,
+        work_len: usize,
+    ) -> Answer;
 }
 
 // Safety, of every call below: the library takes any contents and any lengths, reads and writes only
@@ -364,6 +386,38 @@ pub fn write_mesh(points: &[f32], cells: &[u32], file: &mut [u8], work: &mut [u3
 pub fn read_mesh(file: &[u8], points: &mut [f32], cells: &mut [u32], work: &mut [u32]) -> Answer {
     unsafe {
         sf_read_mesh(
+            file.as_ptr(),
+            file.len(),
+            points.as_mut_ptr(),
+            points.len(),
+            cells.as_mut_ptr(),
+            cells.len(),
+            work.as_mut_ptr(),
+            work.len(),
+        )
+    }
+}
+
+/// `sf_write_vtk`.
+pub fn write_vtk(points: &[f32], cells: &[u32], file: &mut [u8], work: &mut [u32]) -> Answer {
+    unsafe {
+        sf_write_vtk(
+            points.as_ptr(),
+            points.len(),
+            cells.as_ptr(),
+            cells.len(),
+            file.as_mut_ptr(),
+            file.len(),
+            work.as_mut_ptr(),
+            work.len(),
+        )
+    }
+}
+
+/// `sf_read_vtk`.
+pub fn read_vtk(file: &[u8], points: &mut [f32], cells: &mut [u32], work: &mut [u32]) -> Answer {
+    unsafe {
+        sf_read_vtk(
             file.as_ptr(),
             file.len(),
             points.as_mut_ptr(),

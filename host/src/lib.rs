@@ -2,9 +2,9 @@
 //!
 //! The steps are [`Plan::new`], [`Plan::refine`], [`Plan::grid`], [`Grid::representatives`],
 //! [`Grid::keep_cover`], [`Grid::keep_crust`], [`Mesh::components`], [`Mesh::one_piece`],
-//! [`Mesh::to_bytes`] and [`Mesh::from_bytes`]. Each sizes and lends the tables of one function of
-//! `include/sporeferry.h` and gives its answer or a [`Refusal`]. That library is proved; these bindings
-//! and the modules below are ordinary Rust, tested and not proved.
+//! [`Mesh::to_bytes`], [`Mesh::from_bytes`], [`Mesh::to_vtk`] and [`Mesh::from_vtk`]. Each sizes and lends
+//! the tables of one function of `include/sporeferry.h` and gives its answer or a [`Refusal`]. That library
+//! is proved; these bindings and the modules below are ordinary Rust, tested and not proved.
 //!
 //! [`lent`] has the same functions over tables of the caller's own. [`cover::cover`] goes the whole way from a
 //! part's surface to its mesh.

@@ -17,6 +17,8 @@ fn main() -> ExitCode {
         Command::Help => Ok(USAGE.to_string()),
         Command::Cover(order) => commands::cover(&order),
         Command::Info(file) => commands::info(&file),
+        Command::ToVtk(files) => commands::to_vtk(&files),
+        Command::ToMesh(files) => commands::to_mesh(&files),
     };
     match told {
         Ok(text) => print(&text),

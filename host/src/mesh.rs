@@ -1,4 +1,4 @@
-//! Meshes: component numbers, one piece, and the mesh file.
+//! Meshes: component numbers, one piece, and files of both kinds.
 
 use crate::lent::{self, Answer};
 use crate::refusal::{Refusal, Step};
@@ -85,6 +85,20 @@ impl Mesh {
         }
     }
 
+    /// The bytes of the mesh as a legacy VTK file, for viewers: the component numbers are its cell data.
+    /// Refused with 4 or 8.
+    ///
+    /// ```
+    /// use sporeferry::Mesh;
+    /// let mesh = Mesh { points: vec![[1.5; 3]; 4], cells: vec![[0, 1, 2, 3]] };
+    /// let file = mesh.to_vtk().unwrap();
+    /// assert!(file.starts_with(b"# vtk DataFile Version 3.0\ncover mesh\nBINARY\n"));
+    /// assert_eq!(Mesh::from_vtk(&file), Ok(mesh));
+    /// ```
+    pub fn to_vtk(&self) -> Result<Vec<u8>, Refusal> {
+        self.written(Step::WriteVtk, lent::write_vtk)
+    }
+
     /// The mesh of a file's bytes. Refused with 11, 12, 4, 8 or 13.
     ///
     /// ```
@@ -112,6 +126,12 @@ impl Mesh {
             }
             told => told.map(|_| Mesh::default()),
         }
+    }
+
+    /// The mesh of a VTK file's bytes, of exactly the layout that [`Mesh::to_vtk`] writes, under any title of at most
+    /// 255 bytes. Refused with 14, 11, 12, 15, 4, 8 or 13.
+    pub fn from_vtk(file: &[u8]) -> Result<Self, Refusal> {
+        Self::read(Step::ReadVtk, lent::read_vtk, file)
     }
 
     /// The sum of the cells' absolute volumes, in f64. A cell that names a missing point counts nothing.

@@ -15,6 +15,8 @@ pub enum Step {
     OnePiece,
     WriteMesh,
     ReadMesh,
+    WriteVtk,
+    ReadVtk,
 }
 
 impl Step {
@@ -31,6 +33,8 @@ impl Step {
             Step::OnePiece => "one piece",
             Step::WriteMesh => "write mesh",
             Step::ReadMesh => "read mesh",
+            Step::WriteVtk => "write vtk",
+            Step::ReadVtk => "read vtk",
         }
     }
 }
@@ -49,7 +53,7 @@ impl Step {
 #[derive(Clone, Copy, Debug, PartialEq, Eq)]
 pub struct Refusal {
     pub step: Step,
-    /// The refusal's number, 1 to 13.
+    /// The refusal's number, 1 to 15.
     pub number: u32,
     /// The counts needed on a 9, in the order the header names them; else zeros.
     pub values: [u64; 3],
@@ -76,6 +80,8 @@ impl Refusal {
             11 => "the file ends inside a count or a section".into(),
             12 => "the file has bytes after its last section".into(),
             13 => "the component numbers in the file are not those of its cells".into(),
+            14 => "the file departs from the layout of our VTK files".into(),
+            15 => "a cell of the file is no tetrahedron of four points".into(),
             number => format!("the library gave {number}, a number these bindings do not know"),
         }
     }
@@ -117,10 +123,10 @@ impl Refusal {
             Step::Refine => format!("the split table needs room for {first} octants"),
             Step::Grid if second == 0 => format!("{first} cells and their work need more room"),
             Step::Grid => format!("{first} cells with {second} vertices need more room"),
-            Step::KeepCover | Step::KeepCrust | Step::ReadMesh => {
+            Step::KeepCover | Step::KeepCrust | Step::ReadMesh | Step::ReadVtk => {
                 format!("{first} points and {second} cells need more room")
             }
-            Step::WriteMesh => format!("the file needs room for {first} bytes"),
+            Step::WriteMesh | Step::WriteVtk => format!("the file needs room for {first} bytes"),
             _ => format!("the result needs room for {first} entries"),
         }
     }

@@ -62,5 +62,6 @@ fn every_step_answers_c_as_it_answers_rust() {
     assert_eq!((values("components"), values("one_piece")), (vec![1, 0, 0], vec![1, 0, 0]));
     assert_eq!(values("write_mesh"), [12 + 12 * kept[0] + 20 * kept[1], 0, 0]);
     assert_eq!(values("read_mesh"), [kept[0], kept[1], 0]);
+    assert_eq!(values("read_vtk"), [kept[0], kept[1], 0]);
     assert!(lines.last().unwrap().ends_with("the same mesh"));
 }

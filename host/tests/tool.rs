@@ -126,6 +126,31 @@ fn a_file_that_does_not_read_is_explained() {
 }
 
 #[test]
+fn a_mesh_goes_to_a_viewer_and_back() {
+    let mesh =
+        Mesh { points: vec![[0.5, f32::NAN, -1.0]; 9], cells: vec![[5, 6, 7, 8], [0, 1, 2, 3]] };
+    let file = mesh.to_bytes().unwrap();
+    let files = [("a.mesh", &file[..]), ("bad.vtk", b"# vtk DataFile\n")];
+    let folder = with(Folder::new("viewer"), &files);
+    let (code, out, error) = run(&folder, "vtk a.mesh -o a.vtk");
+    assert_eq!((code, error.as_str()), (0, ""));
+    assert!(out.contains("cells    2\n"));
+    let (code, _, error) = run(&folder, "mesh a.vtk -o b.mesh");
+    assert_eq!((code, error.as_str()), (0, ""));
+    assert_eq!(fs::read(folder.0.join("b.mesh")).unwrap(), file);
+
+    for (words, holds) in [
+        ("mesh bad.vtk -o b.mesh", "bad.vtk: refusal 14 of read vtk: the file departs"),
+        ("mesh a.mesh -o c.mesh", "refusal 14 of read vtk"),
+        ("vtk a.vtk -o c.vtk", "refusal 11 of read mesh"),
+        ("vtk a.mesh -o ./a.mesh", "it is the file to be read"),
+        ("vtk missing.mesh -o c.vtk", "missing.mesh: "),
+    ] {
+        fails(&folder, words, 1, holds);
+    }
+}
+
+#[test]
 fn words_are_understood_or_not() {
     let folder = Folder::new("words");
     let (code, out, error) = run(&folder, "--help");
