@@ -1,5 +1,6 @@
 -- The numbers of document 01's "Worked numbers" that are marked (P): one table, one theorem about the definitions.
 use mathlib.Core.Path.{_≡_, refl}
+use mathlib.Core.Bool.{true}
 use mathlib.Core.List.{List, [], _∷_}
 use Prim.Native.Nat.{ℕ}
 use lib.ListN.{length, take}
@@ -19,6 +20,10 @@ use Rattle.lists.specs.Appearance.{place, noted, seenOf, numbersOf}
 use Rattle.links.specs.Labels.{any, shares, touched, takenOver, addCell, labels, labelAt}
 use Rattle.components.specs.Numbers.{componentNumbers}
 use Rattle.representatives.specs.Highest.{isHighest, representativesOf}
+use Rattle.volume.specs.Cell.{pointOf, cornersOf}
+use Rattle.volume.specs.Volume.{volumeOf, sizeOf, verdictOf, verdictAt, leastOf}
+use Rattle.compact.specs.Weighed.{shaped, shapeAt, finalCells}
+use Rattle.compact.specs.Used.{firstUses, usedOf, renumbered}
 use Rattle.lattice.specs.Lattice.{latticeVertices, latticeCells, latticeTable}
 use Rattle.lattice.specs.Worked.{eight, nine}
 use Rattle.worked.specs.Octree.{unsplit, octree-six}
@@ -50,6 +55,10 @@ data Row : Type 0 where
   refined : (crossing : List ℕ) (ones byte : ℕ) → Row
   -- the representatives of cells, with their crossing answers
   represented : (cells crossing numbers : List ℕ) → Row
+  -- the cells that stay of marked ones, over these points and with this cell size, all by their bit patterns
+  stayed : (points : List ℕ) (c : ℕ) (cells final : List ℕ) → Row
+  -- compaction of cells: the points used, and the cells renumbered
+  compacted : (cells used numbers : List ℕ) → Row
   -- the component numbers of cells
   numbered : (cells numbers : List ℕ) → Row
 
@@ -59,6 +68,8 @@ Says (gridded levels d split cells vertices) = (length (gridCells levels d split
 Says (lattice d vertices cells first) = length (latticeVertices d) ∷ length (latticeCells d) ∷ take 4 (latticeTable d) ≡ vertices ∷ cells ∷ first
 Says (refined crossing ones byte) = Splits (refineOf (pos 6 6 6) 2 crossing) ones byte
 Says (represented cells crossing numbers) = representativesOf cells crossing (cellsOf cells) ≡ numbers
+Says (stayed points c cells final) = finalCells (λ i. true) (leastOf (f32 c)) points cells (cellsOf cells) ≡ final
+Says (compacted cells used numbers) = usedOf cells ∷ renumbered cells ∷ [] ≡ used ∷ numbers ∷ []
 Says (numbered cells numbers) = componentNumbers cells (cellsOf cells) ≡ numbers
 
 abbrev one : ℕ
@@ -97,10 +108,14 @@ table =
     ∷ represented chain (0 ∷ 1 ∷ 0 ∷ []) (0 ∷ 2 ∷ [])
     -- cells [5,6,7,8], [0,1,2,3], [8,9,10,11]: component numbers 0, 1, 0
     ∷ numbered (5 ∷ 6 ∷ 7 ∷ 8 ∷ 0 ∷ 1 ∷ 2 ∷ 3 ∷ 8 ∷ 9 ∷ 10 ∷ 11 ∷ []) (0 ∷ 1 ∷ 0 ∷ [])
+    -- points 0, x, y, z unit, c 1: [0,2,1,3] becomes [2,0,1,3]
+    ∷ stayed (0 ∷ 0 ∷ 0 ∷ one ∷ 0 ∷ 0 ∷ 0 ∷ one ∷ 0 ∷ 0 ∷ 0 ∷ one ∷ []) one (0 ∷ 2 ∷ 1 ∷ 3 ∷ []) (2 ∷ 0 ∷ 1 ∷ 3 ∷ [])
+    -- only [4,2,7,0] kept: points 4, 2, 7, 0; cell [0,1,2,3]
+    ∷ compacted (4 ∷ 2 ∷ 7 ∷ 0 ∷ []) (4 ∷ 2 ∷ 7 ∷ 0 ∷ []) (0 ∷ 1 ∷ 2 ∷ 3 ∷ [])
     ∷ []
 
 worked : Every Says table
-unfolding Says table ofBits add sub mul div neg lt ofInt ceilTo allFinite scaleOf dimsOf fitsOn axisOf octantsOf straight straightBox counted axesOf planOf run those place noted seenOf numbersOf any shares touched takenOver addCell labels labelAt componentNumbers isHighest representativesOf
+unfolding Says table ofBits add sub mul div neg lt ofInt ceilTo allFinite scaleOf dimsOf fitsOn axisOf octantsOf straight straightBox counted axesOf planOf run those place noted seenOf numbersOf any shares touched takenOver addCell labels labelAt componentNumbers isHighest representativesOf pointOf cornersOf volumeOf sizeOf verdictOf verdictAt shaped shapeAt finalCells firstUses usedOf renumbered
 worked =
     row refl (row eight (row refl (row nine (row refl (row octree-six (row root-and-child (row child-alone
-    (row refl (row refl (row refl (row refl (row refl (row refl (row refl done))))))))))))))
+    (row refl (row refl (row refl (row refl (row refl (row refl (row refl (row refl (row refl done))))))))))))))))
