@@ -3,3 +3,4 @@ pub mod Using
 pub mod Weighing
 pub mod Placing
 pub mod Keeping
+pub mod Meaning

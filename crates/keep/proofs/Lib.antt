@@ -1,3 +1,4 @@
 -- Laws that the proofs of keep share.
 pub mod Marking
 pub mod Steps
+pub mod Meaning

@@ -1,3 +1,4 @@
 -- The definitions that the contracts of keep cite.
 pub mod Marked
 pub mod Step
+pub mod Worked

@@ -1,0 +1,98 @@
+-- Worked numbers of document 01 for keeping, computed from the definitions: one table, one theorem.
+use mathlib.Core.Path.{_≡_, refl}
+use mathlib.Core.Bool.{Bool, true, false}
+use mathlib.Core.List.{List, [], _∷_, _++_, map}
+use Prim.Native.Nat.{ℕ}
+use lib.Ieee.{Float, binary32, ofBits, add, sub, mul, div, neg, lt}
+use lib.ListN.{replicate}
+use Rattle.float32.specs.Operations.{f32}
+use Rattle.lists.specs.Ladder.{first, unless}
+use Rattle.lists.specs.Tables.{lengthRows, allBelow, among}
+use Rattle.lists.specs.Runs.{run}
+use Rattle.lists.specs.Appearance.{place, noted}
+use Rattle.links.specs.Labels.{any, shares, touched, takenOver, addCell, labels, labelAt}
+use Rattle.volume.specs.Cell.{pointOf, cornersOf}
+use Rattle.volume.specs.Volume.{volumeOf, sizeOf, verdictOf, verdictAt}
+use Rattle.groups.specs.Judged.{sizeRows, crossedRows}
+use Rattle.compact.specs.Used.{firstUses, usedOf, renumbered, pointBits, pointsAt}
+use Rattle.compact.specs.Weighed.{shaped, isDropped, shapeAt, lostAt, finalCells, droppedCells}
+use Rattle.compact.specs.Kept.{numberOf, valuesOf, keptOf, pointsAfter, cellsAfter}
+use Rattle.keep.specs.Marked.{crustMark, isInside, coverMark}
+use Rattle.keep.specs.Step.{crustRows, coverRows, keepOf, coverOf, coverCells, workAfter}
+
+-- the cell size, points, cells, crossing and probe answers; the room for points and cells and the work, which hold sevens; and what is
+-- answered: number, values, the cells before compaction, and the three tables after
+pub record Case : Type 0 where
+  pub size : ℕ
+  pub points : List ℕ
+  pub cells : List ℕ
+  pub crossing : List ℕ
+  pub probe : List ℕ
+  pub point-room : ℕ
+  pub cell-room : ℕ
+  pub work : ℕ
+  pub number : ℕ
+  pub values : List ℕ
+  pub final : List ℕ
+  pub points-after : List ℕ
+  pub cells-after : List ℕ
+  pub work-after : List ℕ
+
+abbrev sevens : ℕ → List ℕ
+sevens n = replicate n 7
+
+abbrev one : ℕ
+one = 0x3f80_0000
+
+-- the points 0, x, y, z unit
+abbrev unit-points : List ℕ
+unit-points = 0 ∷ 0 ∷ 0 ∷ one ∷ 0 ∷ 0 ∷ 0 ∷ one ∷ 0 ∷ 0 ∷ 0 ∷ one ∷ []
+
+-- eight points whose numbers 4, 2, 7, 0 are 0, x, y, z unit, and the others (1, 1, 1)
+abbrev eight-points : List ℕ
+eight-points =
+    (0 ∷ 0 ∷ one ∷ []) ++ (one ∷ one ∷ one ∷ []) ++ (one ∷ 0 ∷ 0 ∷ []) ++ (one ∷ one ∷ one ∷ [])
+    ++ (0 ∷ 0 ∷ 0 ∷ []) ++ (one ∷ one ∷ one ∷ []) ++ (one ∷ one ∷ one ∷ []) ++ (0 ∷ one ∷ 0 ∷ [])
+
+abbrev case : ℕ → List ℕ → List ℕ → List ℕ → List ℕ → ℕ → ℕ → ℕ → ℕ → List ℕ → List ℕ → List ℕ → List ℕ → List ℕ → Case
+case c p k x s a b w n v f pa ca wa =
+    record { size = c; points = p; cells = k; crossing = x; probe = s; point-room = a; cell-room = b; work = w; number = n; values = v; final = f; points-after = pa; cells-after = ca; work-after = wa }
+
+abbrev table : List Case
+table =
+    -- [0,2,1,3] becomes [2,0,1,3]; compacted it is [0,1,2,3] of the points 2, 0, 1, 3
+    case one unit-points (0 ∷ 2 ∷ 1 ∷ 3 ∷ []) (1 ∷ []) (0 ∷ []) 12 4 10 0 (4 ∷ 1 ∷ 0 ∷ []) (2 ∷ 0 ∷ 1 ∷ 3 ∷ [])
+    (0 ∷ one ∷ 0 ∷ 0 ∷ 0 ∷ 0 ∷ one ∷ 0 ∷ 0 ∷ 0 ∷ 0 ∷ one ∷ []) (0 ∷ 1 ∷ 2 ∷ 3 ∷ []) (replicate 9 0 ++ (7 ∷ []))
+    -- only [4,2,7,0] kept: points 4, 2, 7, 0 and cell [0,1,2,3]
+    ∷ case one eight-points (1 ∷ 3 ∷ 5 ∷ 6 ∷ 4 ∷ 2 ∷ 7 ∷ 0 ∷ []) (0 ∷ 1 ∷ []) (0 ∷ 0 ∷ []) 13 5 18 0 (4 ∷ 1 ∷ 0 ∷ []) (4 ∷ 2 ∷ 7 ∷ 0 ∷ [])
+    (unit-points ++ (7 ∷ [])) (0 ∷ 1 ∷ 2 ∷ 3 ∷ 7 ∷ []) (replicate 18 0)
+    -- the highest cell of a group decides: cells 0 and 1 share point 3, and cell 1 is flat and dropped
+    ∷ case one unit-points (0 ∷ 1 ∷ 2 ∷ 3 ∷ 3 ∷ 3 ∷ 3 ∷ 3 ∷ []) (0 ∷ 0 ∷ []) (0 ∷ 1 ∷ []) 12 4 10 0 (4 ∷ 1 ∷ 1 ∷ []) (0 ∷ 1 ∷ 2 ∷ 3 ∷ [])
+    unit-points (0 ∷ 1 ∷ 2 ∷ 3 ∷ []) (replicate 10 0)
+    -- and the lowest does not
+    ∷ case one unit-points (0 ∷ 1 ∷ 2 ∷ 3 ∷ 3 ∷ 3 ∷ 3 ∷ 3 ∷ []) (0 ∷ 0 ∷ []) (1 ∷ 0 ∷ []) 12 4 10 10 [] [] (sevens 12) (sevens 4) (replicate 10 0)
+    -- one point too little room
+    ∷ case one unit-points (0 ∷ 1 ∷ 2 ∷ 3 ∷ []) (1 ∷ []) (0 ∷ []) 11 4 9 9 (4 ∷ 1 ∷ []) (0 ∷ 1 ∷ 2 ∷ 3 ∷ []) (sevens 11) (sevens 4) (replicate 9 0)
+    -- a missing point, a probe byte above 1, short work, no cell size
+    ∷ case one unit-points (0 ∷ 1 ∷ 2 ∷ 4 ∷ []) (1 ∷ []) (0 ∷ []) 12 4 9 8 [] [] (sevens 12) (sevens 4) (sevens 9)
+    ∷ case one unit-points (0 ∷ 1 ∷ 2 ∷ 3 ∷ []) (1 ∷ []) (2 ∷ []) 12 4 9 6 [] (0 ∷ 1 ∷ 2 ∷ 3 ∷ []) (sevens 12) (sevens 4) (sevens 9)
+    ∷ case one unit-points (0 ∷ 1 ∷ 2 ∷ 3 ∷ []) (1 ∷ []) (2 ∷ []) 12 4 8 5 [] (0 ∷ 1 ∷ 2 ∷ 3 ∷ []) (sevens 12) (sevens 4) (sevens 8)
+    ∷ case 0x8000_0000 unit-points (0 ∷ 1 ∷ 2 ∷ 3 ∷ []) (1 ∷ []) (2 ∷ []) 12 4 8 1 [] (0 ∷ 1 ∷ 2 ∷ 3 ∷ []) (sevens 12) (sevens 4) (sevens 8)
+    -- no cells, no points
+    ∷ case one [] [] [] [] 0 0 1 10 [] [] [] [] (sevens 1)
+    ∷ []
+
+abbrev asked : Case → Case
+asked k =
+    let c = f32 (k .size) in
+    let p = sevens (k .point-room) in
+    let q = sevens (k .cell-room) in
+    let w = sevens (k .work) in
+    let a = coverOf c (k .points) (k .cells) (k .crossing) (k .probe) p q w in
+    let F = coverCells c (k .points) (k .cells) (k .crossing) (k .probe) in
+    case (k .size) (k .points) (k .cells) (k .crossing) (k .probe) (k .point-room) (k .cell-room) (k .work) (numberOf a) (valuesOf a) F
+    (pointsAfter a (k .points) F p) (cellsAfter a F q) (workAfter a (k .points) (k .cells) w)
+
+worked : map asked table ≡ table
+unfolding ofBits add sub mul div neg lt first unless lengthRows allBelow among run place noted any shares touched takenOver addCell labels labelAt pointOf cornersOf volumeOf sizeOf verdictOf verdictAt sizeRows crossedRows firstUses usedOf renumbered pointBits pointsAt shaped isDropped shapeAt lostAt finalCells droppedCells keptOf crustMark isInside coverMark crustRows coverRows keepOf
+worked = refl

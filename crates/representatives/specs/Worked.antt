@@ -1,0 +1,74 @@
+-- Worked numbers of document 01 for representatives, computed from the definitions: one table, one theorem.
+use mathlib.Core.Path.{_≡_, refl}
+use mathlib.Core.List.{List, [], _∷_, _++_, map}
+use Prim.Native.Nat.{ℕ}
+use lib.Ieee.{binary32, ofBits, toBits, add, div}
+use lib.ListN.{replicate}
+use Rattle.lists.specs.Ladder.{first, unless}
+use Rattle.lists.specs.Tables.{lengthRows, allBelow, among}
+use Rattle.lists.specs.Runs.{run, those}
+use Rattle.links.specs.Labels.{any, shares, touched, takenOver, addCell, labels, labelAt}
+use Rattle.volume.specs.Cell.{pointOf, cornersOf}
+use Rattle.groups.specs.Judged.{sizeRows, crossedRows}
+use Rattle.representatives.specs.Highest.{isHighest, representativesOf, centroidBits, centroidsOf}
+use Rattle.representatives.specs.Step.{numberOf, valuesOf, listedOf, representedOf, numbersAfter, centroidsAfter, workAfter}
+
+-- how many points there are, at 1, 1, 1 each; cells and crossing answers; the lengths of the result tables and the work, which hold
+-- sevens; and what is answered: number, values, and the three tables after
+pub record Case : Type 0 where
+  pub points : ℕ
+  pub cells : List ℕ
+  pub crossing : List ℕ
+  pub numbers : ℕ
+  pub centroids : ℕ
+  pub work : ℕ
+  pub number : ℕ
+  pub values : List ℕ
+  pub numbers-after : List ℕ
+  pub centroids-after : List ℕ
+  pub work-after : List ℕ
+
+abbrev sevens : ℕ → List ℕ
+sevens n = replicate n 7
+
+abbrev ones : ℕ → List ℕ
+ones n = replicate n 0x3f80_0000
+
+abbrev three : List ℕ
+three = 0 ∷ 1 ∷ 2 ∷ 3 ∷ 3 ∷ 4 ∷ 5 ∷ 6 ∷ 7 ∷ 8 ∷ 9 ∷ 10 ∷ []
+
+abbrev case : ℕ → List ℕ → List ℕ → ℕ → ℕ → ℕ → ℕ → List ℕ → List ℕ → List ℕ → List ℕ → Case
+case p c x n z w k v na za wa =
+    record { points = p; cells = c; crossing = x; numbers = n; centroids = z; work = w; number = k; values = v; numbers-after = na; centroids-after = za; work-after = wa }
+
+abbrev table : List Case
+table =
+    -- none crossing: 1 and 2; cell 1 crossing: 0 and 2
+    case 33 three (0 ∷ 0 ∷ 0 ∷ []) 3 7 15 0 (2 ∷ []) (1 ∷ 2 ∷ 7 ∷ []) (ones 6 ++ (7 ∷ [])) (replicate 14 0 ++ (7 ∷ []))
+    ∷ case 33 three (0 ∷ 1 ∷ 0 ∷ []) 2 6 14 0 (2 ∷ []) (0 ∷ 2 ∷ []) (ones 6) (replicate 14 0)
+    -- one number, or one coordinate, too little room
+    ∷ case 33 three (0 ∷ 1 ∷ 0 ∷ []) 1 6 14 9 (2 ∷ []) (sevens 1) (sevens 6) (replicate 14 0)
+    ∷ case 33 three (0 ∷ 1 ∷ 0 ∷ []) 2 5 15 9 (2 ∷ []) (sevens 2) (sevens 5) (replicate 14 0 ++ (7 ∷ []))
+    -- a missing point, an answer above 1, an answer too few, short work, ragged points
+    ∷ case 30 three (0 ∷ 1 ∷ 0 ∷ []) 2 6 14 8 [] (sevens 2) (sevens 6) (sevens 14)
+    ∷ case 30 three (0 ∷ 2 ∷ 0 ∷ []) 2 6 14 6 [] (sevens 2) (sevens 6) (sevens 14)
+    ∷ case 30 three (0 ∷ 2 ∷ []) 2 6 14 5 [] (sevens 2) (sevens 6) (sevens 14)
+    ∷ case 33 three (0 ∷ 2 ∷ 0 ∷ []) 2 6 13 5 [] (sevens 2) (sevens 6) (sevens 13)
+    ∷ case 34 three (0 ∷ 2 ∷ 0 ∷ []) 2 6 14 5 [] (sevens 2) (sevens 6) (sevens 14)
+    -- no cells
+    ∷ case 3 [] [] 0 0 1 0 (0 ∷ []) [] [] (0 ∷ [])
+    ∷ []
+
+abbrev asked : Case → Case
+asked k =
+    let P = ones (k .points) in
+    let o = sevens (k .numbers) in
+    let z = sevens (k .centroids) in
+    let w = sevens (k .work) in
+    let a = representedOf P (k .cells) (k .crossing) o z w in
+    case (k .points) (k .cells) (k .crossing) (k .numbers) (k .centroids) (k .work) (numberOf a) (valuesOf a)
+    (numbersAfter a (k .cells) (k .crossing) o) (centroidsAfter a P (k .cells) (k .crossing) z) (workAfter a P (k .cells) w)
+
+worked : map asked table ≡ table
+unfolding ofBits toBits add div first unless lengthRows allBelow among run those any shares touched takenOver addCell labels labelAt pointOf cornersOf sizeRows crossedRows isHighest representativesOf centroidBits centroidsOf listedOf representedOf
+worked = refl
