@@ -3,9 +3,10 @@
 use oracle::steps::{self, Sizes};
 
 /// The steps that the library has, with the refusals that a run must meet.
-const LANDED: [(&str, &[(&str, &[u32])]); 6] = [
+const LANDED: [(&str, &[(&str, &[u32])]); 7] = [
     ("plan", &[("plan", &[0, 1, 2, 3, 4])]),
     ("refine", &[("refine", &[0, 1, 2, 3, 4, 5, 6, 9])]),
+    ("grid", &[("grid", &[0, 1, 2, 3, 4, 5, 6, 7, 9])]),
     ("components", &[("components", &[0, 5, 8, 9])]),
     ("one_piece", &[("one_piece", &[0, 5, 8])]),
     (

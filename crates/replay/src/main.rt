@@ -29,6 +29,9 @@ fn replay(tape: &[u8], at: usize) -> usize {
     if step == 3 {
         return octrees::refine(tape, start);
     }
+    if step == 4 {
+        return octrees::grid(tape, start);
+    }
     if step == 8 {
         return files::write_mesh(tape, start);
     }

@@ -69,3 +69,21 @@ pub fn bytes(entries: &[u8]) {
     }
     end();
 }
+
+fn first_not_zero(entries: &[u64]) -> usize {
+    let mut i: usize = 0;
+    while i < entries.len() {
+        if entries[i] != 0 {
+            return i;
+        }
+        i += 1;
+    }
+    i
+}
+
+// How many entries from the first on are zero, of how many.
+pub fn zeros(entries: &[u64]) {
+    number(first_not_zero(entries) as u64);
+    number(entries.len() as u64);
+    end();
+}

@@ -11,6 +11,11 @@ pub fn filled_bytes() -> [u8; 16_384] {
     [0xA5u8; 16_384]
 }
 
+// The same for a table of words of eight bytes.
+pub fn filled_long() -> [u64; 16_384] {
+    [0xA5A5_A5A5_A5A5_A5A5u64; 16_384]
+}
+
 // The word at a place, counted in words.
 pub fn word(tape: &[u8], at: usize) -> u32 {
     if at < tape.len() / 4 {

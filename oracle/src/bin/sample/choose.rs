@@ -5,7 +5,7 @@ use crate::record::Record;
 use crate::tape::Tape;
 use oracle::calls::{Format, PlanCall};
 use oracle::random::Random;
-use oracle::steps::{boxes, crossing, damage, files, keep, meshes, refine, rooms, worked};
+use oracle::steps::{boxes, crossing, damage, files, grid, keep, meshes, refine, rooms, worked};
 
 /// How many random calls of a step are looked at.
 const LOOKED_AT: usize = 3_000;
@@ -44,6 +44,28 @@ fn refinements(tape: &mut Tape, random: &mut Random) {
     }
 }
 
+/// The worked grids, then small ones.
+fn grids(tape: &mut Tape, random: &mut Random) {
+    for (call, _) in worked::plans().into_iter().take(3) {
+        let octants = if call.levels == 0 { 0 } else { 216 };
+        let asked = grid::Asked::new(&call, vec![0; octants]);
+        tape.offer(&asked.call(random, asked.needs()), usize::MAX);
+    }
+    for round in 0..120 {
+        let (plan, found) = boxes::small(random, round % 3);
+        let crossing = crossing(random, &found.layout);
+        let split = match round % 3 {
+            0 => vec![0; random.below(40) / 38],
+            _ => grid::table(random, &plan, &found.layout, &crossing),
+        };
+        let asked = grid::Asked::new(&plan, split);
+        let room = rooms::lengths(random, asked.needs());
+        tape.offer(&asked.call(random, room), 4);
+        let refused = grid::Asked::new(&boxes::refused(random), Vec::new());
+        tape.offer(&refused.call(random, refused.needs()), 4);
+    }
+}
+
 /// Whole and damaged files, with rooms of every kind.
 fn readings(tape: &mut Tape, random: &mut Random, format: Format) {
     offered(tape, random, |random| {
@@ -71,6 +93,7 @@ pub fn all(seed: u64) -> Tape {
     let random = &mut Random::new(seed);
     plans(&mut tape, random);
     refinements(&mut tape, random);
+    grids(&mut tape, random);
     offered(&mut tape, random, keep::components);
     offered(&mut tape, random, keep::one_piece);
     writings(&mut tape, random, Format::Mesh);
