@@ -53,13 +53,13 @@ impl<T: Entry> Lent<T> {
         &mut self.buffer[GUARD..end]
     }
 
-    /// Where the lent entries start; the guards lie in the same buffer.
+    /// Where the lent entries start; the guards lie in the same buffer, on both sides.
     pub fn start(&self) -> *const T {
-        self.buffer[GUARD..].as_ptr()
+        self.buffer.as_ptr().wrapping_add(GUARD)
     }
 
     pub fn start_mut(&mut self) -> *mut T {
-        self.buffer[GUARD..].as_mut_ptr()
+        self.buffer.as_mut_ptr().wrapping_add(GUARD)
     }
 }
 

@@ -52,10 +52,10 @@ impl Report {
         self.steps.get(step).map_or(0, |tally| tally.cases)
     }
 
-    /// How often a step answered a number.
-    pub fn met(&self, step: &str, number: u32) -> u64 {
+    /// The numbers that a step answered, ascending.
+    pub fn numbers(&self, step: &str) -> Vec<u32> {
         let tally = self.steps.get(step);
-        tally.and_then(|t| t.numbers.get(&number)).map_or(0, |n| *n)
+        tally.map_or(Vec::new(), |tally| tally.numbers.keys().copied().collect())
     }
 }
 

@@ -65,7 +65,12 @@ impl Reading {
 }
 
 /// The file with one of its cells' vertices set to the first point that is not there.
-fn naming_missing(random: &mut Random, format: Format, sample: &Sample, file: &[u8]) -> Vec<u8> {
+pub fn naming_missing(
+    random: &mut Random,
+    format: Format,
+    sample: &Sample,
+    file: &[u8],
+) -> Vec<u8> {
     let vertex = random.below(sample.cells.len());
     let (cells, count) = (
         sample.mesh().cell_count(),
@@ -90,6 +95,18 @@ fn naming_missing(random: &mut Random, format: Format, sample: &Sample, file: &[
     missing
 }
 
+/// The file with the component number of its last cell changed: its lowest byte stands at the
+/// number's start in a mesh file, before the last line feed in a VTK file.
+pub fn misnumbered(format: Format, file: &[u8]) -> Vec<u8> {
+    let mut wrong = file.to_vec();
+    let at = match format {
+        Format::Mesh => file.len() - 4,
+        Format::Vtk => file.len() - 2,
+    };
+    wrong[at] ^= 1;
+    wrong
+}
+
 /// Reads a file with rooms of every kind, then damaged.
 fn read(random: &mut Random, format: Format, sample: &Sample, report: &mut Report) {
     let file = format.encode(sample.mesh());
@@ -104,6 +121,8 @@ fn read(random: &mut Random, format: Format, sample: &Sample, report: &mut Repor
         if !sample.cells.is_empty() {
             let missing = naming_missing(random, format, sample, &file);
             reading.read(random, &missing, room, report);
+            let wrong = misnumbered(format, &file);
+            reading.read(random, &wrong, room, report);
         }
     }
 }

@@ -11,7 +11,7 @@ pub mod meshes;
 mod plan;
 pub mod refine;
 pub mod rooms;
-mod vtk_headers;
+pub mod vtk_headers;
 pub mod worked;
 
 pub use crossings::{crossing, shell};
