@@ -12,7 +12,7 @@ use lib.Dec.{eqb}
 use lib.ListN.{length, getD, set, length-set}
 use lib.Seq.{getD-set-same, getD-set-other}
 use Rattle.octants.specs.Oct.{any}
-use Rattle.octants.specs.Near.{any-found}
+use Rattle.octants.proofs.Near.{any-found}
 use Rattle.balance.specs.Shell.{one, from, some, Merged, touched}
 
 or-true : (a : Bool) → true ≡ a || true

@@ -10,10 +10,11 @@ use lib.Pow.{pow-mono}
 use lib.Dec.{eqb}
 use lib.ListN.{getD, length}
 use Rattle.octants.specs.Oct.{Pos, pos, Tree, Inside, near, balanced}
-use Rattle.octants.specs.Near.{near-some, some-near, bool-ext}
+use Rattle.octants.proofs.Near.{near-some, some-near, bool-ext}
 use Rattle.octants.specs.Table.{depth, size, off, slot, place, at, bit, table}
-use Rattle.octants.specs.TableLaws.{place-slot, slot-lt, table-is, off-mono, off-le, off-suc}
-use Rattle.octants.specs.Levels.{Dims, Found, found-depth, found-level, found-room, twice-depth, bit-read}
+use Rattle.octants.proofs.TableLaws.{place-slot, slot-lt, table-is, off-mono, off-le, off-suc}
+use Rattle.octants.specs.Levels.{Dims, Found}
+use Rattle.octants.proofs.Levels.{found-depth, found-level, found-room, twice-depth, bit-read}
 use Rattle.balance.specs.Sweep.{Swept, Pass, touches, balancedByte, Shows}
 
 -- ---- the level j levels down, as the code has it

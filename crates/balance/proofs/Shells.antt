@@ -9,8 +9,8 @@ use borrow.Author.Tests.{le-leb, leb-true}
 use lib.Dec.{eqb, leb}
 use lib.ListN.{getD}
 use Rattle.octants.specs.Oct.{Axis, ax, ay, az, Pos, pos, Inside, near}
-use Rattle.octants.specs.Axis1.{Close}
-use Rattle.octants.specs.Near.{and-both, both-and, any-some, some-any, near-some, some-near, bool-ext, clash}
+use Rattle.octants.proofs.Axis1.{Close}
+use Rattle.octants.proofs.Near.{and-both, both-and, any-some, some-any, near-some, some-near, bool-ext, clash}
 use Rattle.octants.specs.Table.{at}
 use Rattle.octants.specs.Levels.{twice}
 use Rattle.balance.specs.Shell.{one, from, some, inRow, inRows, inLayers, Merged, Ends, Blank, Seen, touched}

@@ -7,10 +7,11 @@ use native.Mathlib.Omega.{arith}
 use native.Mathlib.Nat.{mod-lt, div-lt-iff-lt-mul, div-add-mod'}
 use lib.Arith.{digits-lt}
 use Rattle.octants.specs.Oct.{Pos, pos, any}
-use Rattle.octants.specs.Near.{any-some, some-any, bool-ext}
+use Rattle.octants.proofs.Near.{any-some, some-any, bool-ext}
 use Rattle.octants.specs.Table.{depth, size, off}
-use Rattle.octants.specs.TableLaws.{factor-right}
-use Rattle.octants.specs.Levels.{Found, found-depth, twice}
+use Rattle.octants.proofs.TableLaws.{factor-right}
+use Rattle.octants.specs.Levels.{Found, twice}
+use Rattle.octants.proofs.Levels.{found-depth}
 use Rattle.octants.specs.Judge.{unsteady, isGraded}
 use Rattle.balance.specs.Shell.{one, touched, Seen}
 use Rattle.balance.specs.Sweep.{gives}

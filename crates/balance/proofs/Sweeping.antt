@@ -13,7 +13,8 @@ use lib.Seq.{getD-set-same, getD-set-other}
 use Rattle.lists.proofs.Lent.{zeros-at}
 use Rattle.octants.specs.Oct.{Axis, ax, ay, az, Pos, pos, near}
 use Rattle.octants.specs.Table.{size, slot, place, at, bit}
-use Rattle.octants.specs.Levels.{Level, twice, layer-few}
+use Rattle.octants.specs.Levels.{Level, twice}
+use Rattle.octants.proofs.Levels.{layer-few}
 use Rattle.balance.specs.Shell.{one, touched, Ends, Blank, Seen}
 use Rattle.balance.specs.Sweep.{Swept, Pass, touches, balancedByte}
 

@@ -7,8 +7,8 @@ use native.Mathlib.Omega.{arith}
 use Rattle.octants.specs.Oct.{Axis, ax, ay, az, Pos, pos, width, Closed}
 use Rattle.octants.specs.Table.{read}
 use Rattle.cells.specs.Cells.{next, corner, Cell, cell, Face, face, faceCentre, centre, middle, beside, end, turned, turnsTo, same, over, fan, halves, cellsTo, Side, split, equal, coarser, border, side, finer, faceCells, axisCells, leafCells, flat}
-use Rattle.cells.specs.Points.{Drawn, Here, drawn-corner, drawn-centre, drawn-opposite, drawn-face, drawn-middle, small, by-axis, DrawnFace}
-use Rattle.cells.specs.LeafSome.{IsLeaf}
+use Rattle.cells.proofs.Points.{Drawn, Here, drawn-corner, drawn-centre, drawn-opposite, drawn-face, drawn-middle, small, by-axis, DrawnFace}
+use Rattle.cells.specs.Leaf.{IsLeaf}
 use Rattle.numbering.specs.Keys.{keyOf, stride}
 use Rattle.sides.specs.declared.Beside.{Beside}
 use Rattle.sides.specs.declared.Beside.the-variants.{Split, Equal, Given, Coarser, Border}

@@ -15,7 +15,8 @@ use Rattle.lists.specs.Tables.{allAtMost}
 use Rattle.lists.proofs.Rows.{clear, unless-none, unless-some}
 use Rattle.octants.specs.Oct.{Pos, pos}
 use Rattle.octants.specs.Table.{off, size, depth}
-use Rattle.octants.specs.Judge.{isGraded, graded-closes}
+use Rattle.octants.specs.Judge.{isGraded}
+use Rattle.octants.proofs.Judge.{graded-closes}
 use Rattle.sides.specs.Told.{Taken}
 use Rattle.plan.specs.Plan.{planOf, octantsOf, onPlan}
 use Rattle.plan.proofs.Ready.{ReadyPlan, ready}

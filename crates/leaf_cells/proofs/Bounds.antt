@@ -10,11 +10,13 @@ use lib.Dec.{leb}
 use lib.ListN.{length, getD}
 use borrow.Author.Tests.{leb-true, le-leb, lt-leb}
 use Rattle.octants.specs.Oct.{Axis, ax, ay, az, Pos, pos, Tree, Inside, width}
-use Rattle.octants.specs.Near.{or-cases, or-left, or-right, bool-cases, clash}
+use Rattle.octants.proofs.Near.{or-cases, or-left, or-right, bool-cases, clash}
 use Rattle.octants.specs.Table.{read}
 use Rattle.cells.specs.Cells.{Cell, corner, centre, two, boxDown, overLeaves, cells}
-use Rattle.cells.specs.LeafSome.{IsLeaf, leaves-some, box-some}
-use Rattle.cells.specs.Vertices.{leafPoints, names, marks, vertices}
+use Rattle.cells.specs.Leaf.{IsLeaf}
+use Rattle.cells.proofs.LeafSome.{leaves-some, box-some}
+use Rattle.cells.specs.Vertices.{leafPoints, names, marks}
+use Rattle.cells.proofs.Vertices.{vertices}
 use Rattle.lists.proofs.Cases.{ltOr}
 use Rattle.numbering.specs.Keys.{keyOf, Packs}
 use Rattle.numbering.proofs.Packing.{key-small}

@@ -11,8 +11,8 @@ use Rattle.octants.specs.Oct.{Axis, ax, ay, az, Pos, pos, width}
 use Rattle.octants.specs.Levels.{Dims}
 use Rattle.octants.specs.Table.{read}
 use Rattle.cells.specs.Cells.{corner, centre, boxDown, down}
-use Rattle.cells.specs.Points.{drawn-corner}
-use Rattle.cells.specs.LeafSome.{IsLeaf}
+use Rattle.cells.proofs.Points.{drawn-corner}
+use Rattle.cells.specs.Leaf.{IsLeaf}
 use Rattle.cells.specs.Vertices.{leafPoints}
 use Rattle.lists.specs.Runs.{run, Stored, Storing}
 use Rattle.lists.proofs.Running.{loop-start, loop-next, loop-done}

@@ -12,12 +12,14 @@ use lib.Seq.{getD-take, getD-drop, sets, getD-set-other}
 use lib.Pow.{pow-mono, pow-pos}
 use borrow.Author.Tests.{eqb-true, eq-eqb}
 use Rattle.octants.specs.Oct.{Axis, ax, ay, az, Pos, pos, Tree}
-use Rattle.octants.specs.Near.{or-cases, clash, pos-eta}
+use Rattle.octants.proofs.Near.{or-cases, clash, pos-eta}
 use Rattle.octants.specs.Table.{read}
 use Rattle.cells.specs.Cells.{Cell, boxDown, down, corner, centre, leafCells, cells, overLeaves, flat}
-use Rattle.cells.specs.Points.{drawn-corner}
-use Rattle.cells.specs.LeafSome.{IsLeaf, leaves-some}
-use Rattle.cells.specs.Vertices.{leafPoints, names, marks, vertices}
+use Rattle.cells.proofs.Points.{drawn-corner}
+use Rattle.cells.specs.Leaf.{IsLeaf}
+use Rattle.cells.proofs.LeafSome.{leaves-some}
+use Rattle.cells.specs.Vertices.{leafPoints, names, marks}
+use Rattle.cells.proofs.Vertices.{vertices}
 use Rattle.lists.specs.Runs.{run}
 use Rattle.lists.specs.Counts.{unit, hit, cnt, SameSet}
 use Rattle.lists.proofs.Running.{run-same}

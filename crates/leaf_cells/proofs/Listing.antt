@@ -12,14 +12,17 @@ use lib.Seq.{getD-take, getD-drop}
 use lib.Pow.{pow-mono}
 use borrow.Author.Tests.{eqb-true, eq-eqb}
 use Rattle.octants.specs.Oct.{Axis, ax, ay, az, Pos, pos, Tree, In, Inside, Closed}
-use Rattle.octants.specs.Near.{both-and, or-cases, or-left, clash, pos-eta}
-use Rattle.octants.specs.Axis1.{child-in}
+use Rattle.octants.proofs.Near.{both-and, or-cases, or-left, clash, pos-eta}
+use Rattle.octants.proofs.Axis1.{child-in}
 use Rattle.octants.specs.Table.{read, size, place}
-use Rattle.octants.specs.TableLaws.{place-in}
+use Rattle.octants.proofs.TableLaws.{place-in}
 use Rattle.cells.specs.Cells.{Cell, down, boxDown, below, child, two, overLeaves, leafCells, cells, flat}
-use Rattle.cells.specs.Opened.{opened, own-opened, opened-parent, parent-child, two-lt}
-use Rattle.cells.specs.LeafSome.{IsLeaf, leaves-some}
-use Rattle.cells.specs.Vertices.{leafPoints, names, marks, vertices}
+use Rattle.cells.specs.Leaf.{opened}
+use Rattle.cells.proofs.Opened.{own-opened, opened-parent, parent-child, two-lt}
+use Rattle.cells.specs.Leaf.{IsLeaf}
+use Rattle.cells.proofs.LeafSome.{leaves-some}
+use Rattle.cells.specs.Vertices.{leafPoints, names, marks}
+use Rattle.cells.proofs.Vertices.{vertices}
 use Rattle.lists.specs.Runs.{run}
 use Rattle.lists.specs.Counts.{unit, hit, cnt, SameSet}
 use Rattle.lists.proofs.Running.{run-same}

@@ -10,7 +10,7 @@ ghost use lib.Seq.{sets};
 ghost use Rattle.octants.specs.Oct.{pos};
 ghost use Rattle.octants.specs.Table.{read};
 ghost use Rattle.cells.specs.Cells.{leafCells, cells, flat};
-ghost use Rattle.cells.specs.LeafSome.{IsLeaf};
+ghost use Rattle.cells.specs.Leaf.{IsLeaf};
 ghost use Rattle.lists.specs.Runs.{Stored, Room};
 ghost use Rattle.numbering.specs.Distinct.{Lookup};
 ghost use Rattle.sides.specs.Told.{Taken};

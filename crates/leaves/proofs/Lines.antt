@@ -9,7 +9,7 @@ use native.Mathlib.Numerals.{sub-one}
 use lib.ListN.{length, length-append}
 use Rattle.octants.specs.Oct.{Axis, ax, ay, az, Pos, pos, Tree}
 use Rattle.octants.specs.Table.{size, slot, place}
-use Rattle.octants.specs.TableLaws.{place-slot}
+use Rattle.octants.proofs.TableLaws.{place-slot}
 use Rattle.cells.specs.Cells.{down, boxDown, below, child, two, overLeaves}
 use Rattle.leaves.specs.Leaves.{kids}
 

@@ -9,14 +9,15 @@ use native.Mathlib.Numerals.{add-one}
 use lib.ListN.{length, length-append, set}
 use lib.Seq.{sets, set-out, length-sets}
 use Rattle.octants.specs.Oct.{Axis, ax, ay, az, Pos, pos, Tree, In, Inside, counts, hit, within, parent}
-use Rattle.octants.specs.Near.{in-within, both-and, clash}
-use Rattle.octants.specs.Axis1.{child-in}
+use Rattle.octants.proofs.Near.{in-within, both-and, clash}
+use Rattle.octants.proofs.Axis1.{child-in}
 use Rattle.octants.specs.Table.{read, place, size, bit}
-use Rattle.octants.specs.TableLaws.{place-in}
+use Rattle.octants.proofs.TableLaws.{place-in}
 use Rattle.cells.specs.Cells.{Cell, Face, Side, split, equal, coarser, border, middle, down, below, child, two, leafCells, cells, faceCells, side, face, finer}
-use Rattle.cells.specs.Counting.{cells-length, countAt, edgesOf}
-use Rattle.cells.specs.Opened.{opened, own-opened, opened-parent, parent-child}
-use Rattle.cells.specs.LeafSome.{IsLeaf}
+use Rattle.cells.proofs.Counting.{cells-length, countAt, edgesOf}
+use Rattle.cells.specs.Leaf.{opened}
+use Rattle.cells.proofs.Opened.{own-opened, opened-parent, parent-child}
+use Rattle.cells.specs.Leaf.{IsLeaf}
 use Rattle.lists.proofs.Parts.{sets-append, sets-whole}
 use Rattle.sides.specs.Told.{Taken}
 use Rattle.leaves.specs.declared.Tally.{Tally}

@@ -8,7 +8,7 @@ use lib.Seq.{sets}
 use Rattle.octants.specs.Oct.{Axis, ax, ay, az, Pos, pos, Tree, In}
 use Rattle.octants.specs.Table.{read, place}
 use Rattle.cells.specs.Cells.{Cell, down, below, child, two, overLeaves, leafCells, cells}
-use Rattle.cells.specs.Opened.{opened}
+use Rattle.cells.specs.Leaf.{opened}
 use Rattle.leaves.specs.declared.Tally.{Tally}
 
 -- a leaf in one number: its level, then its place by x, y and z

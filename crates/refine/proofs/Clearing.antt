@@ -12,8 +12,9 @@ use Rattle.lists.specs.Tables.{allAtMost}
 use Rattle.lists.proofs.Lent.{below-at}
 use Rattle.octants.specs.Oct.{Pos, pos, Tree, Inside, parent, raw, rawFrom}
 use Rattle.octants.specs.Table.{depth, size, off, place, at, bit, read}
-use Rattle.octants.specs.TableLaws.{place-in, slot-place, slot-lt, off-suc, off-le, Room, slot-room}
-use Rattle.octants.specs.Levels.{Level, Dims, Found, found-depth, found-level, found-room, twice, twice-depth, half-in, parent-place, read-at}
+use Rattle.octants.proofs.TableLaws.{place-in, slot-place, slot-lt, off-suc, off-le, Room, slot-room}
+use Rattle.octants.specs.Levels.{Level, Dims, Found, twice}
+use Rattle.octants.proofs.Levels.{found-depth, found-level, found-room, twice-depth, half-in, parent-place, read-at}
 use Rattle.balance.specs.Shell.{one}
 use Rattle.balance.specs.Sweep.{Swept, Shows}
 use Rattle.balance.proofs.Sweeping.{swept-run, swept-cong, row-place}

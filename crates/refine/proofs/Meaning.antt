@@ -20,10 +20,11 @@ use Rattle.plan.specs.declared.Planned.{Planned}
 use Rattle.plan.specs.declared.Planned.the-variants as planned
 use Rattle.octants.specs.Oct.{Pos, Tree, raw}
 use Rattle.octants.specs.Table.{read, table, total}
-use Rattle.octants.specs.TableLaws.{length-levels}
+use Rattle.octants.proofs.TableLaws.{length-levels}
 use Rattle.octants.specs.Demand.{LeastRefinement}
-use Rattle.octants.specs.DemandTable.{least-agree, table-least, front-agree}
-use Rattle.octants.specs.Rounds.{Rounds, rounds-refined, rounds-table}
+use Rattle.octants.proofs.DemandTable.{least-agree, table-least, front-agree}
+use Rattle.octants.specs.Rounds.{Rounds}
+use Rattle.octants.proofs.Rounds.{rounds-refined, rounds-table}
 use Rattle.refine.specs.Step.{tableRows, refineRows, crossingRows, numberOf, rootsOf, splitOf, answerFor, refinedOf, splitAfter, RefineDone}
 use Rattle.refine.specs.declared.Refined.{Refined}
 use Rattle.refine.specs.declared.Refined.the-variants.{Done, Refused, Short}

@@ -9,7 +9,7 @@ use borrow.Author.Tests.{eq-eqb, ne-eqb}
 use Rattle.octants.specs.Oct.{Axis, Pos, pos, hit}
 use Rattle.octants.specs.Table.{at}
 use Rattle.cells.specs.Cells.{reaches, stepped}
-use Rattle.cells.specs.Sides.{turnAt, central}
+use Rattle.cells.specs.Leaf.{turnAt, central}
 use Rattle.sides.specs.declared.Level.{Level}
 use Rattle.sides.specs.declared.Beside.{Beside}
 use Rattle.sides.specs.declared.Beside.the-variants.{Split, Equal, Given, Coarser, Border}

@@ -13,7 +13,7 @@ use Rattle.octants.specs.Oct.{Axis, ax, ay, az, Pos, pos, In}
 use Rattle.octants.specs.Table.{off, size, depth, read, bit}
 use Rattle.octants.specs.Levels.{Dims}
 use Rattle.cells.specs.Cells.{leafCells}
-use Rattle.cells.specs.LeafSome.{IsLeaf}
+use Rattle.cells.specs.Leaf.{IsLeaf}
 use Rattle.sides.specs.declared.Level.{Level}
 use Rattle.sides.specs.declared.Sides.{Sides}
 use Rattle.sides.specs.declared.Beside.{Beside}

@@ -10,17 +10,19 @@ use lib.Dec.{eqb}
 use lib.ListN.{length, length-append}
 use borrow.Author.Tests.{eq-eqb, ne-eqb, le-ltb}
 use Rattle.octants.specs.Oct.{Axis, ax, ay, az, Pos, pos, Tree, counts, parent, In, Closed, within, Octree}
-use Rattle.octants.specs.Near.{in-within, bool-cases, pos-eta, clash}
-use Rattle.octants.specs.Least.{parent-inside}
+use Rattle.octants.proofs.Near.{in-within, bool-cases, pos-eta, clash}
+use Rattle.octants.proofs.Least.{parent-inside}
 use Rattle.octants.specs.Table.{off, read, bit, size, depth}
-use Rattle.octants.specs.TableLaws.{off-le, off-suc}
+use Rattle.octants.proofs.TableLaws.{off-le, off-suc}
 use Rattle.cells.specs.Cells.{next, frame, corner, middle, end, side, Side, split, equal, coarser, border, reaches, stepped, beside, face, Face, faceCentre, turnsTo, finer, cellsTo, faceCells, axisCells, leafCells}
-use Rattle.cells.specs.LeafSome.{IsLeaf, whole-of}
-use Rattle.cells.specs.Local.{splitAt, stepTo, edge-next, edge-last}
-use Rattle.cells.specs.Sides.{beside-in, turnAt, side-split}
-use Rattle.cells.specs.LocalSide.{localSide, side-local, turn-local, under-split}
-use Rattle.cells.specs.Counting.{cells-length, edgesOf}
-use Rattle.cells.specs.Vertices.{side-is-split}
+use Rattle.cells.specs.Leaf.{IsLeaf}
+use Rattle.cells.proofs.LeafSome.{whole-of}
+use Rattle.cells.proofs.Local.{splitAt, stepTo, edge-next, edge-last}
+use Rattle.cells.proofs.Sides.{beside-in, side-split}
+use Rattle.cells.specs.Leaf.{turnAt}
+use Rattle.cells.proofs.LocalSide.{localSide, side-local, turn-local, under-split}
+use Rattle.cells.proofs.Counting.{cells-length, edgesOf}
+use Rattle.cells.proofs.Vertices.{side-is-split}
 use Rattle.sides.specs.declared.Level.{Level}
 use Rattle.sides.specs.declared.Sides.{Sides}
 use Rattle.sides.specs.declared.Beside.{Beside}

@@ -7,7 +7,7 @@ use lib.ListN.{length}
 use Rattle.octants.specs.Oct.{Axis, ax, ay, az, Pos, pos, hit, counts}
 use Rattle.octants.specs.Table.{size, off, at, bit}
 use Rattle.cells.specs.Cells.{next, frame, reaches, stepped}
-use Rattle.cells.specs.Sides.{turnAt}
+use Rattle.cells.specs.Leaf.{turnAt}
 use Rattle.sides.specs.declared.Level.{Level}
 use Rattle.sides.specs.declared.Beside.{Beside}
 use Rattle.sides.specs.declared.Beside.the-variants.{Split, Equal, Given, Coarser, Border}

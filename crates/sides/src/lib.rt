@@ -10,8 +10,8 @@ ghost use Rattle.octants.specs.Oct.{pos};
 ghost use Rattle.octants.specs.Table.{read, bit};
 ghost use Rattle.octants.specs.Levels.{Dims};
 ghost use Rattle.cells.specs.Cells.{reaches, stepped, leafCells};
-ghost use Rattle.cells.specs.Sides.{turnAt};
-ghost use Rattle.cells.specs.LeafSome.{IsLeaf};
+ghost use Rattle.cells.specs.Leaf.{turnAt};
+ghost use Rattle.cells.specs.Leaf.{IsLeaf};
 ghost use Rattle.sides.specs.Reading.{Held, axisOf, splitIn, eitherIn, equalIn, besideIn, sidesIn, levelOf, givenAt};
 ghost use Rattle.sides.specs.Told.{sidesAt, Taken};
 

@@ -8,7 +8,7 @@ use native.Mathlib.Omega.{arith}
 use lib.Dec.{eqb}
 use lib.ListN.{length, getD, replicate}
 use Rattle.octants.specs.Oct.{Axis, ax, ay, az, Pos, pos, Tree, any, Closed}
-use Rattle.octants.specs.Near.{clash}
+use Rattle.octants.proofs.Near.{clash}
 use Rattle.octants.specs.Table.{off, slot, depth, read}
 use Rattle.cells.specs.Cells.{cells, leafCells, boxDown, down, below, descent, side, finer, over, fan, halves, cellsTo, flat}
 use Rattle.lists.proofs.Lent.{zeros-at}

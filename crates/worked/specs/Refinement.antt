@@ -10,7 +10,7 @@ use lib.Dec.{eqb, ltb}
 use lib.ListN.{getD, replicate, set}
 use borrow.Author.Tests.{ltb-true}
 use Rattle.octants.specs.Oct.{Pos, pos, Tree, balanced, near, any, rawFrom, refined}
-use Rattle.octants.specs.Near.{and-both}
+use Rattle.octants.proofs.Near.{and-both}
 use Rattle.octants.specs.Table.{off, slot, depth, read, total, refineOf, tab, levels, table}
 
 unfoldable areBits : List ℕ → Bool

@@ -4,7 +4,7 @@ use Prim.Native.Nat.{suc, _-_, _<_}
 use native.Mathlib.Omega.{arith}
 use lib.ListN.{length}
 use Rattle.octants.specs.Oct.{pos, balanced, Tree}
-use Rattle.octants.specs.TableLaws.{off-le}
+use Rattle.octants.proofs.TableLaws.{off-le}
 use Rattle.balance.specs.Sweep.{Shows}
 use Rattle.balance.proofs.Passing.{balance-start, balance-turn, shows-all}
 use Rattle.balance.proofs.balance.Statement.{statement}

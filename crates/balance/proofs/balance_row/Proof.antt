@@ -1,7 +1,7 @@
 -- `balance::balance_row` meets its contract. Assumes nothing.
 use native.Mathlib.Omega.{arith}
 use Rattle.balance.proofs.Sweeping.{blank, row-layer, row-fits, row-balanced}
-use Rattle.octants.specs.Levels.{layer-few, size-few}
+use Rattle.octants.proofs.Levels.{layer-few, size-few}
 use borrow.Author.Needs.{needs}
 use Rattle.balance.proofs.balance_row.Statement.{statement}
 use Rattle.balance.proofs.balance_row.Tie as tie

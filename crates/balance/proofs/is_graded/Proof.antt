@@ -4,9 +4,9 @@ use mathlib.Core.Bool.{false}
 use Prim.Native.Nat.{suc, _-_, _≤_}
 use native.Mathlib.Omega.{arith}
 use Rattle.octants.specs.Oct.{pos, any}
-use Rattle.octants.specs.Near.{any-more}
+use Rattle.octants.proofs.Near.{any-more}
 use Rattle.octants.specs.Table.{depth, size}
-use Rattle.octants.specs.TableLaws.{off-le}
+use Rattle.octants.proofs.TableLaws.{off-le}
 use Rattle.octants.specs.Judge.{unsteady}
 use Rattle.balance.proofs.Steadiness.{graded-not, graded-all}
 use Rattle.balance.proofs.is_graded.Statement.{statement}

@@ -1,7 +1,7 @@
 -- `balance::row_unsteady` meets its contract. Assumes nothing.
 use mathlib.Core.Path.{_∙_}
 use native.Mathlib.Omega.{arith}
-use Rattle.octants.specs.Levels.{layer-few, size-few}
+use Rattle.octants.proofs.Levels.{layer-few, size-few}
 use Rattle.balance.proofs.Sweeping.{blank, row-layer, row-fits}
 use Rattle.balance.proofs.Steadiness.{row-unsteady}
 use borrow.Author.Needs.{needs}

@@ -1,7 +1,7 @@
 -- `octree::along` meets its contract. Assumes nothing.
 use native.Mathlib.Nat.{mod-eq-of-lt}
 use native.Mathlib.Omega.{arith}
-use Rattle.octants.specs.Levels.{along-few}
+use Rattle.octants.proofs.Levels.{along-few}
 use borrow.Author.Needs.{needs}
 use Rattle.octree.proofs.along.Statement.{statement}
 use Rattle.octree.proofs.along.Tie as tie

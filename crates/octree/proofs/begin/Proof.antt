@@ -5,7 +5,7 @@ use native.Mathlib.Omega.{arith}
 use native.Mathlib.Numerals.{add-one}
 use Rattle.octants.specs.Oct.{pos}
 use Rattle.octants.specs.Table.{off}
-use Rattle.octants.specs.TableLaws.{off-suc}
+use Rattle.octants.proofs.TableLaws.{off-suc}
 use Rattle.octree.proofs.begin.Statement.{statement}
 use Rattle.octree.proofs.begin.Tie as tie
 

@@ -2,7 +2,7 @@
 use native.Mathlib.Omega.{arith}
 use borrow.Author.Tests.{le-ltb, lt-ltb}
 use lib.ListN.{length}
-use Rattle.octants.specs.TableLaws.{Room, slot-room}
+use Rattle.octants.proofs.TableLaws.{Room, slot-room}
 use Rattle.octree.proofs.hits.Statement.{statement}
 use Rattle.octree.proofs.hits.Tie as tie
 

@@ -3,8 +3,9 @@ use Rattle.octants.specs.Oct.{pos, counts}
 use mathlib.Core.Path.{_∙_}
 use Prim.Native.Nat.{suc, _-_}
 use native.Mathlib.Omega.{arith}
-use Rattle.octants.specs.TableLaws.{off-le}
-use Rattle.octants.specs.Levels.{Found, found-end, hit-level, hit-finest}
+use Rattle.octants.proofs.TableLaws.{off-le}
+use Rattle.octants.specs.Levels.{Found}
+use Rattle.octants.proofs.Levels.{found-end, hit-level, hit-finest}
 use borrow.Author.Needs.{needs}
 use Rattle.octree.proofs.is_split.Statement.{statement}
 use Rattle.octree.proofs.is_split.Tie as tie

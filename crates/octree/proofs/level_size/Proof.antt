@@ -1,7 +1,7 @@
 -- `octree::level_size` meets its contract. Assumes nothing.
 use mathlib.Core.Path.{refl}
 use native.Mathlib.Omega.{arith}
-use Rattle.octants.specs.Levels.{level-dims, layer-few, size-few}
+use Rattle.octants.proofs.Levels.{level-dims, layer-few, size-few}
 use borrow.Author.Needs.{needs}
 use Rattle.octree.proofs.level_size.Statement.{statement}
 use Rattle.octree.proofs.level_size.Tie as tie

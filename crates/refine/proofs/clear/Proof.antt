@@ -2,7 +2,7 @@
 use Prim.Native.Nat.{suc, _-_, _≤_}
 use native.Mathlib.Omega.{arith}
 use Rattle.octants.specs.Oct.{pos}
-use Rattle.octants.specs.TableLaws.{off-le}
+use Rattle.octants.proofs.TableLaws.{off-le}
 use Rattle.refine.proofs.Clearing.{Cleared, cleared-start, cleared-turn, cleared-all}
 use Rattle.refine.proofs.clear.Statement.{statement}
 use Rattle.refine.proofs.clear.Tie as tie

@@ -3,7 +3,7 @@ use mathlib.Core.Path.{ap}
 use Prim.Native.Nat.{ℕ, _+_}
 use native.Mathlib.Omega.{arith}
 use borrow.Author.Needs.{needs}
-use Rattle.octants.specs.Levels.{layer-few, size-few}
+use Rattle.octants.proofs.Levels.{layer-few, size-few}
 use Rattle.refine.proofs.Clearing.{row-in, over-room, over-before, row-cleared}
 use Rattle.refine.proofs.clear_row_at.Statement.{statement}
 use Rattle.refine.proofs.clear_row_at.Tie as tie
