@@ -2,3 +2,4 @@
 pub mod Texts
 pub mod Decimals
 pub mod Counts
+pub mod Longer

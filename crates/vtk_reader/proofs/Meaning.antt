@@ -1,19 +1,19 @@
 -- What the definition of `read_vtk` says. Assumes nothing.
 use mathlib.Core.Path.{_≡_, refl, sym, ap, ap₂, subst, _∙_}
 use mathlib.Core.Logic.{_⊎_, inl, inr, _≢_}
-use mathlib.Core.Bool.{Bool, true, false, cond, not, _||_}
+use mathlib.Core.Bool.{Bool, true, false, cond, not, _&&_, _||_}
 use mathlib.Core.List.{List, [], _∷_, _++_}
 use Prim.Native.Nat.{ℕ, zero, suc, _+_, _-_, _*_, _/_, _%_, _≤_, _<_}
 use native.Mathlib.Omega.{arith}
-use borrow.Author.Tests.{le-ltb, eq-eqb, ne-eqb}
-use lib.Dec.{eqb, ltb}
+use borrow.Author.Tests.{le-ltb, eq-eqb, ne-eqb, eqb-false, not-true}
+use lib.Dec.{eqb, ltb, leb}
 use lib.ListN.{length, getD, take, drop, replicate, length-append, length-replicate, getD-replicate, take-append-drop}
-use lib.Seq.{drop-drop, length-take-le}
+use lib.Seq.{drop-drop, drop-append-seam, length-take-le, take-at}
 use Rattle.lists.specs.Ladder.{Row, _when_, first, unless}
-use Rattle.lists.specs.Tables.{most, pointsOf, cellsOf, allBelow, listOf, same, front, Determined}
-use Rattle.lists.proofs.Rows.{number-rows, unless-none, unless-some}
+use Rattle.lists.specs.Tables.{most, pointsOf, cellsOf, allBelow, listOf, same, front, zeroed, among, Determined}
+use Rattle.lists.proofs.Rows.{and-left, and-right, number-rows, unless-none, unless-some}
 use Rattle.lists.proofs.Cases.{eqOr}
-use Rattle.lists.proofs.Lent.{below-at, as-new, determined}
+use Rattle.lists.proofs.Lent.{below-at, as-lent, as-new, determined}
 use Rattle.lists.proofs.Listing.{length-list, list-at, list-is, list-same, same-eq, same-refl}
 use Rattle.words.specs.Words.{bytesOf, wordAt, placeOf, wordsAt}
 use Rattle.words.proofs.Words.{length-bytes, length-words, words-at, words-bytes, words-there}
@@ -24,11 +24,12 @@ use Rattle.mesh_file.specs.declared.Loaded.{Loaded}
 use Rattle.mesh_file.specs.declared.Loaded.the-variants as loaded
 use Rattle.mesh_file.proofs.RoundTrip.{Mesh, all-below, number-small}
 use Rattle.mesh_file.proofs.Meaning.{Room}
-use Rattle.vtk_layout.specs.Layout.{isTitle, written, Laid, locatedOf}
+use Rattle.vtk_layout.specs.Layout.{feed, versionLine, noFeed, isTitle, written, Laid, locatedOf}
 use Rattle.vtk_layout.specs.File.{ledWord, led, typesOf, vtkFile}
 use Rattle.vtk_layout.specs.declared.Located.{Located}
 use Rattle.vtk_layout.specs.declared.Located.the-variants as located
 use Rattle.vtk_layout.proofs.Sound.{located-laid}
+use Rattle.vtk_layout.proofs.Front.{located-stops}
 use Rattle.vtk_layout.proofs.There.{Standing, stands}
 use Rattle.vtk_reader.specs.Read.{stride, marksAt, pointsIn, cellsIn, rightNumbers, bodyRows, readRows, loadedBy, pointsBy, cellsBy, workBy, LoadDone, vtkLoadedOf}
 use Rattle.vtk_reader.proofs.Reading.{Good, good, body-proper}
@@ -53,6 +54,40 @@ read-number-is (located.Found p n a c t d) b x y w =
     last false false true v = refl
     last false false false true = refl
     last false false false false = refl
+
+-- every row's number is one of these
+within : List ℕ → List Row → Bool
+within ks [] = true
+within ks (k when t ∷ l) = among k ks && within ks l
+
+first-within : (ks : List ℕ) (l : List Row) → among 0 ks ≡ true → within ks l ≡ true → among (first l) ks ≡ true
+unfolding first within
+first-within ks [] z h = z
+first-within ks (k when true ∷ l) z h = and-left (among k ks) (within ks l) h
+first-within ks (k when false ∷ l) z h = first-within ks l z (and-right (among k ks) (within ks l) h)
+
+abbrev pub readNumbers : List ℕ
+readNumbers = 0 ∷ 4 ∷ 8 ∷ 9 ∷ 11 ∷ 12 ∷ 13 ∷ 14 ∷ 15 ∷ []
+
+-- a file is answered with 0, or refused with one of the others
+pub read-numbers : (b x y w : List ℕ) → among (loadedNumber (vtkLoadedOf b x y w)) readNumbers ≡ true
+unfolding among
+read-numbers b x y w = ap (λ (k : ℕ). among k readNumbers) (read-number-is (locatedOf b) b x y w) ∙ first-within readNumbers (readRows (locatedOf b) b x y w) refl (by-layout (locatedOf b) refl)
+  where
+    by-stop : (k : ℕ) → (k ≡ 11) ⊎ ((k ≡ 12) ⊎ (k ≡ 14)) → among k readNumbers ≡ true
+    by-stop k (inl e) = ap (λ (j : ℕ). among j readNumbers) e
+    by-stop k (inr (inl e)) = ap (λ (j : ℕ). among j readNumbers) e
+    by-stop k (inr (inr e)) = ap (λ (j : ℕ). among j readNumbers) e
+
+    by-layout : (l : Located) → locatedOf b ≡ l → within readNumbers (readRows l b x y w) ≡ true
+    by-layout (located.Stopped k) e = unfold within in unfold readRows in rw (by-stop k (located-stops b k e)) refl
+    by-layout (located.Found p n a c t d) e = unfold within in unfold readRows in refl
+
+-- nothing of a mesh is stored on a refusal
+pub read-refused : (l : Located) (b x y w : List ℕ) → loadedNumber (loadedBy l b x y w) ≢ 0 → (pointsBy l b x y w ≡ x) × (cellsBy l b x y w ≡ y)
+unfolding pointsBy cellsBy
+read-refused (located.Stopped k) b x y w d = (refl, refl)
+read-refused (located.Found p n a c t d) b x y w e = (as-lent _ _ x e, as-lent _ _ y e)
 
 -- ---- one outcome only
 
@@ -149,6 +184,29 @@ module _ (b : List ℕ) (s : allBelow 256 b ≡ true) (p n a c t d : ℕ) (l : L
   numbers-bytes : take (4 * n) (drop d b) ≡ bytesOf true (componentNumbers (cellsIn b n c) n)
   numbers-bytes = sym (words-bytes true b d n s (l .numbers-in)) ∙ ap (bytesOf true) (same-eq (wordsAt true false b d n) (componentNumbers (cellsIn b n c) n) r)
 
+  word-small : (at : ℕ) → at + 4 ≤ length b → wordAt true b at < 4294967296
+  unfolding wordAt
+  word-small at h =
+      let q = below-at 256 b s in
+      omega (arith, q at (omega arith), q (at + 1) (omega arith), q (at + 2) (omega arith), q (at + 3) (omega arith))
+
+  mesh-is : Mesh (pointsIn b p a) (cellsIn b n c)
+  unfolding placeOf
+  mesh-is =
+      let lp : length (pointsIn b p a) ≡ 3 * p = length-words true false b a (3 * p) in
+      record {
+        points = omega (arith, count-points);
+        cells = omega (arith, length-words true true b c (4 * n));
+        few-points = omega (arith, count-points, g .few-points);
+        few-cells = omega (arith, cells-in true true b c n, g .few-cells);
+        names = ap (λ (k : ℕ). allBelow k (cellsIn b n c)) count-points ∙ g .names;
+        bits =
+            all-below 4294967296 (pointsIn b p a)
+            (λ i k.
+            let j : i < 3 * p = omega arith in
+            omega (arith, words-at true false b a (3 * p) i j, word-small (a + 4 * i) (omega (arith, l .points-in))));
+      }
+
   bytes-are : b ≡ vtkFile (l .title) (pointsIn b p a) (cellsIn b n c)
   unfolding vtkFile
   bytes-are =
@@ -164,6 +222,7 @@ pub record ReadsAs (b x y w : List ℕ) (p n : ℕ) : Type 0 where
   pub cells : List ℕ
   pub title : List ℕ
   pub plain : isTitle title ≡ true
+  pub mesh : Mesh points cells
   pub count-p : pointsOf points ≡ p
   pub count-n : cellsOf cells ≡ n
   pub bytes : b ≡ vtkFile title points cells
@@ -201,6 +260,7 @@ reads-found b x y w p n p′ n′ a c t d s q₀ l e = go (eqOr (first (bodyRows
           cells = cellsIn b n c;
           title = l .title;
           plain = l .plain;
+          mesh = mesh-is b s p n a c t d l g r;
           count-p = count-points b s p n a c t d l g r ∙ ep;
           count-n = cells-in true true b c n ∙ en;
           bytes = bytes-are b s p n a c t d l g r;
@@ -350,6 +410,10 @@ module _ (title P C : List ℕ) (m : Mesh P C) (plain : isTitle title ≡ true) 
       unfolding cellsBy
       loads-cells = rw loads (as-new [] _ y) ∙ ap₂ (λ (k : ℕ) (s : List ℕ). front k s y) (sym (m .cells)) cells-read
 
+      loads-work : workBy (located.Found (pointsOf P) (cellsOf C) a c t d) b x y w ≡ zeroed (2 * pointsOf P) w
+      unfolding workBy
+      loads-work = rw loads (as-new (13 ∷ []) _ w)
+
 -- what is written reads back as the same mesh, whatever its title
 module _ (title P C : List ℕ) (m : Mesh P C) (plain : isTitle title ≡ true) (x y w : List ℕ) (r : Room x y w (pointsOf P) (cellsOf C)) where
   b : List ℕ
@@ -379,3 +443,75 @@ module _ (title P C : List ℕ) (m : Mesh P C) (plain : isTitle title ≡ true) 
   written-cells =
       ap (λ (k : Located). cellsBy k b x y w) (s .found)
       ∙ loads-cells title P C m plain b refl (s .points) (s .cells) (s .types) (s .numbers) l (s .points-are) (s .cells-are) (s .types-are) (s .numbers-are) x y w r
+
+  pub written-work : workBy (locatedOf (vtkFile title P C)) (vtkFile title P C) x y w ≡ zeroed (2 * pointsOf P) w
+  unfolding b
+  written-work =
+      ap (λ (k : Located). workBy k b x y w) (s .found)
+      ∙ loads-work title P C m plain b refl (s .points) (s .cells) (s .types) (s .numbers) l (s .points-are) (s .cells-are) (s .types-are) (s .numbers-are) x y w r
+
+-- ---- two different meshes have different files, and so have two titles
+
+-- bytes up to the first line feed
+title-told : (t t′ r r′ : List ℕ) → noFeed t ≡ true → noFeed t′ ≡ true → t ++ (10 ∷ r) ≡ t′ ++ (10 ∷ r′) → t ≡ t′
+unfolding noFeed
+title-told [] [] r r′ n n′ e = refl
+title-told [] (y ∷ t′) r r′ n n′ e = absurd (eqb-false y 10 (not-true (eqb y 10) (and-left (not (eqb y 10)) (noFeed t′) n′)) (cc))
+title-told (x ∷ t) [] r r′ n n′ e = absurd (eqb-false x 10 (not-true (eqb x 10) (and-left (not (eqb x 10)) (noFeed t) n)) (cc))
+title-told (x ∷ t) (y ∷ t′) r r′ n n′ e =
+    let h : x ≡ y = cc in
+    ap₂ (λ (k : ℕ) (l : List ℕ). k ∷ l) h (title-told t t′ r r′ (and-right (not (eqb x 10)) (noFeed t) n) (and-right (not (eqb y 10)) (noFeed t′) n′) (cc))
+
+module _ (t P C t′ P′ C′ : List ℕ) (m : Mesh P C) (m′ : Mesh P′ C′) (plain : isTitle t ≡ true) (plain′ : isTitle t′ ≡ true) (e : vtkFile t P C ≡ vtkFile t′ P′ C′) where
+  zeros : List ℕ
+  zeros = replicate (2 * (pointsOf P + pointsOf P′)) 0
+
+  -- tables with room for both
+  room : Room (P ++ P′) (C ++ C′) zeros (pointsOf P) (cellsOf C)
+  unfolding zeros
+  room = record {
+    x-room = omega (arith, length-append P P′);
+    y-room = omega (arith, length-append C C′);
+    w-room = omega (arith, length-replicate {A = ℕ} (2 * (pointsOf P + pointsOf P′)) 0);
+  }
+
+  room′ : Room (P ++ P′) (C ++ C′) zeros (pointsOf P′) (cellsOf C′)
+  unfolding zeros
+  room′ = record {
+    x-room = omega (arith, length-append P P′);
+    y-room = omega (arith, length-append C C′);
+    w-room = omega (arith, length-replicate {A = ℕ} (2 * (pointsOf P + pointsOf P′)) 0);
+  }
+
+  counts : loaded.Done (pointsOf P) (cellsOf C) ≡ loaded.Done (pointsOf P′) (cellsOf C′)
+  counts =
+      sym (written-reads t P C m plain (P ++ P′) (C ++ C′) zeros room) ∙ ap (λ (b : List ℕ). vtkLoadedOf b (P ++ P′) (C ++ C′) zeros) e
+      ∙ written-reads t′ P′ C′ m′ plain′ (P ++ P′) (C ++ C′) zeros room′
+
+  fronts : (X Y lent : List ℕ) → length X ≡ length Y → front (length X) X lent ≡ front (length Y) Y lent → X ≡ Y
+  fronts X Y lent l f = sym (take-at X _ (length X) refl) ∙ ap (take (length X)) f ∙ take-at Y _ (length X) (sym l)
+
+  same-points : P ≡ P′
+  same-points =
+      let d = counts in
+      let k : pointsOf P ≡ pointsOf P′ = cc in
+      fronts P P′ (P ++ P′) (omega (arith, m .points, m′ .points))
+      (sym (written-points t P C m plain (P ++ P′) (C ++ C′) zeros room) ∙ ap (λ (b : List ℕ). pointsBy (locatedOf b) b (P ++ P′) (C ++ C′) zeros) e
+      ∙ written-points t′ P′ C′ m′ plain′ (P ++ P′) (C ++ C′) zeros room′)
+
+  same-cells : C ≡ C′
+  same-cells =
+      let d = counts in
+      let k : cellsOf C ≡ cellsOf C′ = cc in
+      fronts C C′ (C ++ C′) (omega (arith, m .cells, m′ .cells))
+      (sym (written-cells t P C m plain (P ++ P′) (C ++ C′) zeros room) ∙ ap (λ (b : List ℕ). cellsBy (locatedOf b) b (P ++ P′) (C ++ C′) zeros) e
+      ∙ written-cells t′ P′ C′ m′ plain′ (P ++ P′) (C ++ C′) zeros room′)
+
+  same-title : t ≡ t′
+  unfolding vtkFile written feed
+  same-title =
+      title-told t t′ _ _ (and-right (leb (length t) 255) (noFeed t) plain) (and-right (leb (length t′) 255) (noFeed t′) plain′)
+      (sym (drop-append-seam versionLine _) ∙ ap (drop (length versionLine)) e ∙ drop-append-seam versionLine _)
+
+  pub files-differ : (t ≡ t′) × (P ≡ P′) × (C ≡ C′)
+  files-differ = (same-title, same-points, same-cells)

@@ -1,0 +1,153 @@
+-- What `write_vtk` leaves, `read_vtk` reads as the same mesh, and what `read_vtk` reads, the writers take. From the contracts. Assumes nothing.
+use mathlib.Core.Path.{_≡_, refl, sym, ap, ap₂, subst, subst₂, _∙_}
+use mathlib.Core.Bool.{true}
+use mathlib.Core.List.{List, [], _∷_}
+use Prim.Native.Nat.{ℕ, _*_, _%_, _≤_}
+use native.Mathlib.Omega.{arith}
+use borrow.Author.Tests.{le-ltb, eq-eqb, ltb-false}
+use lib.Dec.{ltb}
+use lib.ListN.{length, take, replicate, length-replicate}
+use lib.Seq.{take-at}
+use Rattle.lists.specs.Ladder.{_when_, first, proper}
+use Rattle.lists.specs.Tables.{most, pointsOf, cellsOf, lengthRows, allBelow, front, zeroed}
+use Rattle.lists.proofs.Rows.{clear, front-clear, unless-none}
+use Rattle.lists.proofs.Lent.{as-new}
+use Rattle.components.specs.Step.{meshRows}
+use Rattle.mesh_file.specs.Write as mesh
+use Rattle.mesh_file.specs.declared.Written.the-variants as mesh-written
+use Rattle.mesh_file.specs.declared.Loaded.{Loaded}
+use Rattle.mesh_file.specs.declared.Loaded.the-variants as loaded
+use Rattle.mesh_file.proofs.RoundTrip.{Mesh}
+use Rattle.mesh_file.proofs.Meaning.{Room}
+use Rattle.mesh_file.proofs.Meaning as mesh-meaning
+use Rattle.vtk_layout.specs.Layout.{ourTitle, noFeed, isTitle, locatedOf}
+use Rattle.vtk_layout.specs.File.{vtkFile}
+use Rattle.vtk_file.specs.Write.{vtkBytes, writeRows, writtenNumber, writtenOf, WriteDone}
+use Rattle.vtk_file.specs.declared.Written.the-variants as written
+use Rattle.vtk_file.proofs.Writing.{length-file}
+use Rattle.vtk_file.proofs.Meaning.{write-number-is}
+use Rattle.vtk_reader.specs.Read.{LoadDone}
+use Rattle.vtk_reader.proofs.Meaning.{ReadsAs, read-is-written, written-reads, written-points, written-cells, written-work}
+
+-- ---- a mesh, and what the writers take
+
+-- with room, a writer answers where it does not refuse the mesh
+module _ (P C o w : List ℕ) (z : first (meshRows (length P) C (length w)) ≡ 0) where
+  vtk-answers : vtkBytes P C ≤ length o → writtenOf P C o w ≡ written.Done (vtkBytes P C)
+  unfolding writtenOf
+  vtk-answers h = unless-none _ written.Refused _ z ∙ rw (le-ltb _ _ h) refl
+
+  mesh-answers : mesh.bytesFor P C ≤ length o → mesh.writtenOf P C o w ≡ mesh-written.Done (mesh.bytesFor P C)
+  unfolding mesh.writtenOf
+  mesh-answers h = unless-none _ mesh-written.Refused _ z ∙ rw (le-ltb _ _ h) refl
+
+-- both take every mesh
+module _ (P C o w : List ℕ) (m : Mesh P C) (v : 2 * pointsOf P ≤ length w) where
+  unrefused : first (meshRows (length P) C (length w)) ≡ 0
+  unfolding first meshRows lengthRows
+  unrefused =
+      let p : length P % 3 ≡ 0 = omega (arith, m .points) in
+      let c : length C % 4 ≡ 0 = omega (arith, m .cells) in
+      rw (le-ltb most (pointsOf P) (m .few-points), le-ltb most (cellsOf C) (m .few-cells), eq-eqb _ _ p, eq-eqb _ _ c, le-ltb (length w) (2 * pointsOf P) v, m .names) refl
+
+  pub vtk-takes : vtkBytes P C ≤ length o → writtenOf P C o w ≡ written.Done (vtkBytes P C)
+  vtk-takes = vtk-answers P C o w unrefused
+
+  pub mesh-takes : mesh.bytesFor P C ≤ length o → mesh.writtenOf P C o w ≡ mesh-written.Done (mesh.bytesFor P C)
+  mesh-takes = mesh-answers P C o w unrefused
+
+-- and what `write_vtk` takes, of any bits, is a mesh: `write_mesh` takes it where there is room
+module _ (P C o w : List ℕ) (bits : allBelow 4294967296 P ≡ true) (z : writtenNumber (writtenOf P C o w) ≡ 0) where
+  none : first (writeRows P C o w) ≡ 0
+  none = sym (write-number-is P C o w) ∙ z
+
+  not-refused : first (meshRows (length P) C (length w)) ≡ 0
+  unfolding meshRows lengthRows
+  not-refused = front-clear (meshRows (length P) C (length w)) (9 when ltb (length o) (vtkBytes P C) ∷ []) none
+
+  pub taken : Mesh P C
+  taken =
+      let room : List ℕ = replicate (mesh.bytesFor P C) 0 in
+      let h : mesh.bytesFor P C ≤ length room = omega (arith, length-replicate {A = ℕ} (mesh.bytesFor P C) 0) in
+      mesh-meaning.taken P C room w bits (ap mesh.writtenNumber (mesh-answers P C room w not-refused h))
+
+  answered : writtenOf P C o w ≡ written.Done (vtkBytes P C)
+  unfolding proper
+  answered = vtk-answers P C o w not-refused (ltb-false _ _ (clear (writeRows P C o w) refl none 6))
+
+-- ---- what is written reads back
+
+pub plain-title : isTitle ourTitle ≡ true
+unfolding ourTitle noFeed
+plain-title = refl
+
+-- the tables that a mesh was read into
+pub record Back (P C x y v : List ℕ) (a : Loaded) (x′ y′ v′ : List ℕ) : Type 0 where
+  pub answer : a ≡ loaded.Done (pointsOf P) (cellsOf C)
+  pub points : x′ ≡ front (length P) P x
+  pub cells : y′ ≡ front (length C) C y
+  pub work : v′ ≡ zeroed (2 * pointsOf P) v
+
+-- an answer of `write_vtk`
+module _ (P C o w : List ℕ) {bytes : ℕ} {o′ w′ : List ℕ} (bits : allBelow 4294967296 P ≡ true) (d : WriteDone P C o w (written.Done bytes) o′ w′) where
+  zero-number : writtenNumber (writtenOf P C o w) ≡ 0
+  zero-number = ap writtenNumber (sym (d .answer))
+
+  pub written-mesh : Mesh P C
+  written-mesh = taken P C o w bits zero-number
+
+  -- the bytes that it leaves in the file's table are the file
+  pub written-file : take bytes o′ ≡ vtkFile ourTitle P C
+  written-file =
+      let e : written.Done bytes ≡ written.Done (vtkBytes P C) = d .answer ∙ answered P C o w bits zero-number in
+      let k : bytes ≡ vtkBytes P C = cc in
+      let f : o′ ≡ front (vtkBytes P C) (vtkFile ourTitle P C) o = d .file ∙ rw zero-number (as-new [] _ o) in
+      ap₂ (λ (n : ℕ) (l : List ℕ). take n l) k f ∙ take-at (vtkFile ourTitle P C) _ (vtkBytes P C) (length-file P C (written-mesh .points))
+
+  -- and read with room, they are the mesh that was written
+  pub reads-back : (x y v : List ℕ) {a : Loaded} {x′ y′ v′ : List ℕ} → Room x y v (pointsOf P) (cellsOf C)
+      → LoadDone (locatedOf (take bytes o′)) (take bytes o′) x y v a x′ y′ v′ → Back P C x y v a x′ y′ v′
+  reads-back x y v {a} {x′} {y′} {v′} r l = by-file (subst (λ (b : List ℕ). LoadDone (locatedOf b) b x y v a x′ y′ v′) written-file l)
+    where
+      by-file : LoadDone (locatedOf (vtkFile ourTitle P C)) (vtkFile ourTitle P C) x y v a x′ y′ v′ → Back P C x y v a x′ y′ v′
+      by-file k = record {
+        answer = k .answer ∙ written-reads ourTitle P C written-mesh plain-title x y v r;
+        points = k .points ∙ written-points ourTitle P C written-mesh plain-title x y v r;
+        cells = k .cells ∙ written-cells ourTitle P C written-mesh plain-title x y v r;
+        work = k .work ∙ written-work ourTitle P C written-mesh plain-title x y v r;
+      }
+
+-- ---- what is read is a mesh, and the bytes are its file
+
+-- an answer of `read_vtk`: points and cells in front of the tables
+pub record Given (b x′ y′ : List ℕ) (p n : ℕ) : Type 0 where
+  pub title : List ℕ
+  pub plain : isTitle title ≡ true
+  pub mesh : Mesh (take (3 * p) x′) (take (4 * n) y′)
+  pub points : pointsOf (take (3 * p) x′) ≡ p
+  pub cells : cellsOf (take (4 * n) y′) ≡ n
+  pub bytes : b ≡ vtkFile title (take (3 * p) x′) (take (4 * n) y′)
+
+pub read-given : (b x y w : List ℕ) {p n : ℕ} {x′ y′ w′ : List ℕ} → allBelow 256 b ≡ true → LoadDone (locatedOf b) b x y w (loaded.Done p n) x′ y′ w′ → Given b x′ y′ p n
+read-given b x y w {p} {n} {x′} {y′} s l = by-mesh (read-is-written b x y w p n s (sym (l .answer)))
+  where
+    by-mesh : ReadsAs b x y w p n → Given b x′ y′ p n
+    by-mesh r =
+        let lp : length (r .points) ≡ 3 * p = omega (arith, r .mesh .points, r .count-p) in
+        let lc : length (r .cells) ≡ 4 * n = omega (arith, r .mesh .cells, r .count-n) in
+        let ep : r .points ≡ take (3 * p) x′ = sym (ap (take (3 * p)) (l .points ∙ r .stores-points) ∙ take-at (r .points) _ (3 * p) lp) in
+        let ec : r .cells ≡ take (4 * n) y′ = sym (ap (take (4 * n)) (l .cells ∙ r .stores-cells) ∙ take-at (r .cells) _ (4 * n) lc) in
+        record {
+          title = r .title;
+          plain = r .plain;
+          mesh = subst₂ Mesh ep ec (r .mesh);
+          points = ap pointsOf (sym ep) ∙ r .count-p;
+          cells = ap cellsOf (sym ec) ∙ r .count-n;
+          bytes = r .bytes ∙ ap₂ (vtkFile (r .title)) ep ec;
+        }
+
+-- so no other bytes read as that mesh, but for the title
+pub one-file : (b x y b′ x′ y′ : List ℕ) {p n p′ n′ : ℕ} (g : Given b x y p n) (g′ : Given b′ x′ y′ p′ n′)
+    → take (3 * p) x ≡ take (3 * p′) x′ → take (4 * n) y ≡ take (4 * n′) y′ → g .title ≡ g′ .title → b ≡ b′
+one-file b x y b′ x′ y′ {p} {n} {p′} {n′} g g′ ep ec t =
+    g .bytes ∙ ap₂ (vtkFile (g .title)) ep ec ∙ ap (λ (s : List ℕ). vtkFile s (take (3 * p′) x′) (take (4 * n′) y′)) t ∙ sym (g′ .bytes)
