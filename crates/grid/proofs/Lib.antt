@@ -5,3 +5,4 @@ pub mod Octrees
 pub mod Steps
 pub mod Meaning
 pub mod Theorems
+pub mod Whole

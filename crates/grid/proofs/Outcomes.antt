@@ -46,7 +46,7 @@ module _ (p : Plan) (s : List ℕ) where
 
 -- ---- room
 
-neither : (s t : Bool) → s || t ≡ false → (s ≡ false) × (t ≡ false)
+pub neither : (s t : Bool) → s || t ≡ false → (s ≡ false) × (t ≡ false)
 neither false t e = (refl, e)
 neither true t e = absurd (true≢false e)
 

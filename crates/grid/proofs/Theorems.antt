@@ -1,101 +1,250 @@
--- What the vertices and numbers of an octree grid mean. Assumes nothing.
-use mathlib.Core.Path.{_≡_, refl, sym, ap, ap₂, _∙_}
-use mathlib.Core.Logic.{_≢_}
-use mathlib.Core.Bool.{Bool, true, _&&_}
-use mathlib.Core.List.{List, [], _∷_, _++_, map}
-use Prim.Native.Nat.{ℕ, _+_, _*_, _/_, _%_, _≤_, _<_}
+-- What the vertices and numbers of a grid mean. Assumes nothing.
+use mathlib.Core.Path.{_≡_, refl, ap, _∙_}
+use mathlib.Core.Logic.{_⊎_, inl, inr, _≢_}
+use mathlib.Core.Bool.{true, false, _||_}
+use mathlib.Core.List.{List, [], _∷_, map}
+use Prim.Native.Nat.{ℕ, zero, suc, _≤_, _<_}
+use native.Mathlib.Nat.{not-suc-le-zero, le-of-suc-le-suc}
 use native.Mathlib.Omega.{arith}
 use borrow.Author.Tests.{lt-ltb}
-use lib.Dec.{ltb}
-use lib.ListN.{length, getD}
-use Rattle.lists.specs.Counts.{cnt, hit, SameSet}
+use lib.ListN.{length, getD, length-map}
+use Rattle.lists.specs.Counts.{cnt, SameSet}
 use Rattle.lists.specs.Tables.{allBelow}
-use Rattle.lists.proofs.Counted.{hit-self}
-use Rattle.octants.specs.Oct.{Axis, ax, ay, az, Pos, pos}
+use Rattle.lists.proofs.Cases.{ltOr}
+use Rattle.lists.proofs.Counted.{hit-self, cnt-at, cnt-find}
+use Rattle.lists.proofs.Lent.{below-at}
+use Rattle.octants.specs.Oct.{ax, ay, az, Pos, pos}
 use Rattle.octants.specs.Table.{read}
 use Rattle.cells.specs.Cells.{Cell, cells, flat}
+use Rattle.cells.specs.Vertices.{names}
 use Rattle.numbering.specs.Keys.{keyOf, tripleOf, Packs, Before}
-use Rattle.numbering.specs.Distinct.{distinctSorted, rank}
+use Rattle.numbering.specs.Distinct.{rank}
 use Rattle.numbering.proofs.Members.{members}
 use Rattle.numbering.proofs.Ranks.{number-of, distinct-strict}
-use Rattle.numbering.proofs.Packing.{pack, key-order}
+use Rattle.numbering.proofs.Packing.{pack, unpack, key-small, key-order}
+use Rattle.sides.specs.Told.{Taken}
+use Rattle.leaf_cells.proofs.Bounds.{far, near-packs, cells-near}
 use Rattle.plan.specs.declared.Plan.{Plan}
+use Rattle.lattice.specs.Lattice.{latticeCells, latticeVertices, LatticeVertex, indexOf}
 use Rattle.lattice.specs.Storing.{dimsOf}
-use Rattle.grid.specs.Grid.{vertexKeys, cellTable}
+use Rattle.lattice.proofs.Named.{Each, named, listed, cells-vertices}
+use Rattle.grid.specs.Grid.{gridCells, gridVertices, vertexKeys, numberAt, cellTable}
 use Rattle.grid.specs.Step.{vertexCount}
-use Rattle.grid.proofs.Octrees.{octree-cells, octree-number, octree-vertices, map-length}
+use Rattle.grid.specs.Whole.{cornersOf}
+use Rattle.grid.proofs.Outcomes.{neither}
 
-packs-key : (k : ℕ) → k < 549755813888 → Packs (tripleOf k)
-packs-key k h ax = omega arith
-packs-key k h ay = omega arith
-packs-key k h az = omega arith
+-- ---- of every vertex of some cells
 
--- the numbers of some cells among the distinct keys of all
-module _ (C : List Cell) where
+each-map : (R S : Pos → Type 0) → ((q : Pos) → R q → S q) → (D : List Cell) → Each R D → Each S D
+each-map R S f [] e = tt
+each-map R S f (c ∷ D) e = (f (c .c0) (e .0), f (c .c1) (e .1), f (c .c2) (e .2), f (c .c3) (e .3), each-map R S f D (e .4))
+
+below-each : (f : Pos → ℕ) (n : ℕ) (D : List Cell) → Each (λ q. f q < n) D → allBelow n (flat f D) ≡ true
+unfolding flat allBelow
+below-each f n [] e = refl
+below-each f n (c ∷ D) e = rw (lt-ltb _ _ (e .0), lt-ltb _ _ (e .1), lt-ltb _ _ (e .2), lt-ltb _ _ (e .3)) (below-each f n D (e .4))
+
+names-each : (f : Pos → ℕ) (g : ℕ → Pos) (D : List Cell) → Each (λ q. g (f q) ≡ q) D → map g (flat f D) ≡ cornersOf D
+unfolding flat cornersOf
+names-each f g [] e = refl
+names-each f g (c ∷ D) e = rw (e .0, e .1, e .2, e .3, names-each f g D (e .4)) refl
+
+-- a vertex has a number below that of the vertices, and stands there among them
+abbrev Stands : (Pos → ℕ) → List Pos → Pos → Type 0
+Stands number vs q = (number q < length vs) × (getD vs (number q) (pos 0 0 0) ≡ q)
+
+-- ---- an octree
+
+flat-map : (f : ℕ → ℕ) (g : Pos → ℕ) (D : List Cell) → flat (λ q. f (g q)) D ≡ map f (flat g D)
+unfolding flat
+flat-map f g [] = refl
+flat-map f g (c ∷ D) = ap (λ (t : List ℕ). f (g (c .c0)) ∷ f (g (c .c1)) ∷ f (g (c .c2)) ∷ f (g (c .c3)) ∷ t) (flat-map f g D)
+
+map-at : {A B : Type 0} (f : A → B) (l : List A) (x : A) (y : B) (i : ℕ) → i < length l → getD (map f l) i y ≡ f (getD l i x)
+map-at f [] x y i h = absurd (not-suc-le-zero h)
+map-at f (a ∷ l) x y zero h = refl
+map-at f (a ∷ l) x y (suc i) h = map-at f l x y i (le-of-suc-le-suc h)
+
+-- no coordinate of a cell is out of its field
+packs-each : (D : List Cell) → names far D ≡ false → Each Packs D
+unfolding names
+packs-each [] e = tt
+packs-each (c ∷ D) e =
+    let r = neither (far (c .c0) || far (c .c1) || far (c .c2) || far (c .c3)) (names far D) e in
+    let r3 = neither (far (c .c0) || far (c .c1) || far (c .c2)) (far (c .c3)) (r .0) in
+    let r2 = neither (far (c .c0) || far (c .c1)) (far (c .c2)) (r3 .0) in
+    let r1 = neither (far (c .c0)) (far (c .c1)) (r2 .0) in
+    (near-packs (c .c0) (r1 .0), near-packs (c .c1) (r1 .1), near-packs (c .c2) (r2 .1), near-packs (c .c3) (r3 .1), packs-each D (r .1))
+
+module _ (s : List ℕ) (nx ny nz l : ℕ) (h : Taken s nx ny nz l) where
+  abbrev d : Pos
+  d = pos nx ny nz
+
+  abbrev C : List Cell
+  C = cells l d (read d l s)
+
   abbrev K : List ℕ
-  K = distinctSorted (flat keyOf C)
+  K = vertexKeys l d s
 
-  abbrev Among : List Cell → Type 0
-  Among D = (x : ℕ) → 0 < cnt x (flat keyOf D) → 0 < cnt x (flat keyOf C)
+  -- the keys are exactly those of the cells' vertices
+  pub vertices-exactly : SameSet (flat keyOf (cells l (pos nx ny nz) (read (pos nx ny nz) l s))) (vertexKeys l (pos nx ny nz) s)
+  unfolding vertexKeys
+  vertices-exactly = members (flat keyOf C)
 
-  -- the number of each vertex is the place of its key, and below their number
-  names-some : (D : List Cell) → Among D → map (λ r. getD (distinctSorted (flat keyOf C)) r 0) (flat (λ q. rank (keyOf q) (distinctSorted (flat keyOf C))) D) ≡ flat keyOf D
+  packs-all : Each Packs (cells l (pos nx ny nz) (read (pos nx ny nz) l s))
+  packs-all = packs-each C (cells-near s nx ny nz l h)
+
+  key-stands : (q : Pos) → Packs q → 0 < cnt (keyOf q) (flat keyOf (cells l (pos nx ny nz) (read (pos nx ny nz) l s)))
+      → Stands (λ x. rank (keyOf x) (vertexKeys l (pos nx ny nz) s)) (map tripleOf (vertexKeys l (pos nx ny nz) s)) q
+  unfolding vertexKeys
+  key-stands q p c =
+      let r = number-of (keyOf q) (flat keyOf C) c in
+      (omega (arith, r .0, length-map K tripleOf), map-at tripleOf K 0 (pos 0 0 0) (rank (keyOf q) K) (r .0) ∙ ap tripleOf (r .1) ∙ unpack q p)
+
+  pub octree-stands : (D : List Cell) → ((x : ℕ) → 0 < cnt x (flat keyOf D) → 0 < cnt x (flat keyOf (cells l (pos nx ny nz) (read (pos nx ny nz) l s)))) → Each Packs D
+      → Each (Stands (λ x. rank (keyOf x) (vertexKeys l (pos nx ny nz) s)) (map tripleOf (vertexKeys l (pos nx ny nz) s))) D
   unfolding flat cnt
-  names-some [] a = refl
-  names-some (c ∷ D) a =
-      let e0 = number-of (keyOf (c .c0)) (flat keyOf C) (a (keyOf (c .c0)) (omega (arith, hit-self (keyOf (c .c0))))) .1 in
-      let e1 = number-of (keyOf (c .c1)) (flat keyOf C) (a (keyOf (c .c1)) (omega (arith, hit-self (keyOf (c .c1))))) .1 in
-      let e2 = number-of (keyOf (c .c2)) (flat keyOf C) (a (keyOf (c .c2)) (omega (arith, hit-self (keyOf (c .c2))))) .1 in
-      let e3 = number-of (keyOf (c .c3)) (flat keyOf C) (a (keyOf (c .c3)) (omega (arith, hit-self (keyOf (c .c3))))) .1 in
-      let e4 = names-some D (λ x h. a x (omega arith)) in
-      cc
+  octree-stands [] a e = tt
+  octree-stands (c ∷ D) a e = (
+    key-stands (c .c0) (e .0) (a (keyOf (c .c0)) (omega (arith, hit-self (keyOf (c .c0))))),
+    key-stands (c .c1) (e .1) (a (keyOf (c .c1)) (omega (arith, hit-self (keyOf (c .c1))))),
+    key-stands (c .c2) (e .2) (a (keyOf (c .c2)) (omega (arith, hit-self (keyOf (c .c2))))),
+    key-stands (c .c3) (e .3) (a (keyOf (c .c3)) (omega (arith, hit-self (keyOf (c .c3))))),
+    octree-stands D (λ x g. a x (omega arith)) (e .4),
+  )
 
-  below-some : (D : List Cell) → Among D → allBelow (length (distinctSorted (flat keyOf C))) (flat (λ q. rank (keyOf q) (distinctSorted (flat keyOf C))) D) ≡ true
-  unfolding flat cnt allBelow
-  below-some [] a = refl
-  below-some (c ∷ D) a =
-      let n0 = number-of (keyOf (c .c0)) (flat keyOf C) (a (keyOf (c .c0)) (omega (arith, hit-self (keyOf (c .c0))))) .0 in
-      let n1 = number-of (keyOf (c .c1)) (flat keyOf C) (a (keyOf (c .c1)) (omega (arith, hit-self (keyOf (c .c1))))) .0 in
-      let n2 = number-of (keyOf (c .c2)) (flat keyOf C) (a (keyOf (c .c2)) (omega (arith, hit-self (keyOf (c .c2))))) .0 in
-      let n3 = number-of (keyOf (c .c3)) (flat keyOf C) (a (keyOf (c .c3)) (omega (arith, hit-self (keyOf (c .c3))))) .0 in
-      rw (lt-ltb _ _ n0, lt-ltb _ _ n1, lt-ltb _ _ n2, lt-ltb _ _ n3) (below-some D (λ x h. a x (omega arith)))
+  -- a vertex is that of a cell
+  key-counted : (j : ℕ) → j < length (vertexKeys l (pos nx ny nz) s) → 0 < cnt (getD (vertexKeys l (pos nx ny nz) s) j 0) (flat keyOf (cells l (pos nx ny nz) (read (pos nx ny nz) l s)))
+  key-counted j b = omega (arith, cnt-at K j b, vertices-exactly (getD K j 0))
 
--- ---- the vertices of an octree
+  key-packs : (j : ℕ) → j < length (vertexKeys l (pos nx ny nz) s) → Packs (tripleOf (getD (vertexKeys l (pos nx ny nz) s) j 0))
+  key-packs j b = go
+    where
+      small : getD K j 0 < 549755813888
+      small =
+          let r = cnt-find (getD K j 0) (flat keyOf C) (key-counted j b) in
+          let a = below-each keyOf 549755813888 C (each-map Packs (λ q. keyOf q < 549755813888) key-small C packs-all) in
+          omega (arith, below-at 549755813888 (flat keyOf C) a (r .0) (r .1), r .2)
 
-module _ (l : ℕ) (d : Pos) (s : List ℕ) where
-  -- they are exactly those of the cells
-  pub vertices-exactly : SameSet (flat keyOf (cells l d (read d l s))) (vertexKeys l d s)
+      go : Packs (tripleOf (getD K j 0))
+      go ax = omega (arith, small)
+      go ay = omega arith
+      go az = omega arith
+
+  key-strict : (i j : ℕ) → i < j → j < length (vertexKeys l (pos nx ny nz) s) → getD (vertexKeys l (pos nx ny nz) s) i 0 < getD (vertexKeys l (pos nx ny nz) s) j 0
   unfolding vertexKeys
-  vertices-exactly = members (flat keyOf (cells l d (read d l s)))
+  key-strict = distinct-strict (flat keyOf C)
 
-  -- they are strictly increasing by x, then y, then z
-  pub vertices-rise : ((i : ℕ) → i < length (vertexKeys l d s) → getD (vertexKeys l d s) i 0 < 549755813888) → (i j : ℕ) → i < j → j < length (vertexKeys l d s)
-      → Before (tripleOf (getD (vertexKeys l d s) i 0)) (tripleOf (getD (vertexKeys l d s) j 0))
+  -- the vertices rise by x, then y, then z
+  pub keys-rise : (i j : ℕ) → i < j → j < length (map tripleOf (vertexKeys l (pos nx ny nz) s))
+      → Before (getD (map tripleOf (vertexKeys l (pos nx ny nz) s)) i (pos 0 0 0)) (getD (map tripleOf (vertexKeys l (pos nx ny nz) s)) j (pos 0 0 0))
+  keys-rise i j ij b =
+      let x : ℕ = getD K i 0 in
+      let y : ℕ = getD K j 0 in
+      let bj : j < length K = omega (arith, length-map K tripleOf) in
+      let bi : i < length K = omega arith in
+      rw (map-at tripleOf K 0 (pos 0 0 0) i bi, map-at tripleOf K 0 (pos 0 0 0) j bj)
+      (key-order (tripleOf x) (key-packs i bi) (tripleOf y) (key-packs j bj) .0 (omega (arith, pack x, pack y, key-strict i j ij bj)))
+
+  -- a key's number is its place
+  key-rank : (j : ℕ) → j < length (vertexKeys l (pos nx ny nz) s) → rank (getD (vertexKeys l (pos nx ny nz) s) j 0) (vertexKeys l (pos nx ny nz) s) ≡ j
   unfolding vertexKeys
-  vertices-rise h i j ij b =
-      let x : ℕ = getD (vertexKeys l d s) i 0 in
-      let y : ℕ = getD (vertexKeys l d s) j 0 in
-      key-order (tripleOf x) (packs-key x (h i (omega arith))) (tripleOf y) (packs-key y (h j b)) .0
-      (omega (arith, pack x, pack y, distinct-strict (flat keyOf (cells l d (read d l s))) i j ij b))
+  key-rank j b = go (ltOr r j) (ltOr j r)
+    where
+      n : (rank (getD K j 0) K < length K) × (getD K (rank (getD K j 0) K) 0 ≡ getD K j 0)
+      n = number-of (getD K j 0) (flat keyOf C) (key-counted j b)
 
--- ---- the numbers in the cells of an octree
+      r : ℕ
+      r = rank (getD K j 0) K
 
-module _ (p : Plan) (s : List ℕ) (h : 1 ≤ p .levels) where
-  abbrev T : List Cell
-  T = cells (p .levels) (dimsOf p) (read (dimsOf p) (p .levels) s)
+      go : (r < j) ⊎ (j ≤ r) → (j < r) ⊎ (r ≤ j) → rank (getD K j 0) K ≡ j
+      go (inl u) w = absurd (omega (arith, n .1, key-strict r j u b))
+      go (inr u) (inl w) = absurd (omega (arith, n .1, key-strict j r w (n .0)))
+      go (inr u) (inr w) = omega arith
 
-  table-is : cellTable p s ≡ flat (λ q. rank (keyOf q) (vertexKeys (p .levels) (dimsOf p) s)) (cells (p .levels) (dimsOf p) (read (dimsOf p) (p .levels) s))
-  unfolding cellTable
-  table-is = ap₂ (λ (f : Pos → ℕ) (c : List Cell). flat f c) (octree-number p s h) (octree-cells p s h)
+  -- each vertex is named by a cell
+  pub keys-used : (j : ℕ) → j < length (map tripleOf (vertexKeys l (pos nx ny nz) s))
+      → (k : ℕ) × (k < length (flat (λ q. rank (keyOf q) (vertexKeys l (pos nx ny nz) s)) (cells l (pos nx ny nz) (read (pos nx ny nz) l s))))
+      × (getD (flat (λ q. rank (keyOf q) (vertexKeys l (pos nx ny nz) s)) (cells l (pos nx ny nz) (read (pos nx ny nz) l s))) k 0 ≡ j)
+  keys-used j b =
+      let f : (ℕ → ℕ) = λ x. rank x K in
+      let bj : j < length K = omega (arith, length-map K tripleOf) in
+      let r = cnt-find (getD K j 0) (flat keyOf C) (key-counted j bj) in
+      let e = flat-map f keyOf C in
+      (r .0, rw e (omega (arith, r .1, length-map (flat keyOf C) f)), rw e (map-at f (flat keyOf C) 0 0 (r .0) (r .1) ∙ ap f (r .2) ∙ key-rank j bj))
+
+before-differs : (p q : Pos) → Before p q → p ≢ q
+before-differs p q (inl x) e = omega (arith, ap (λ (r : Pos). r ax) e)
+before-differs p q (inr (x, inl y)) e = omega (arith, ap (λ (r : Pos). r ay) e)
+before-differs p q (inr (x, inr (y, z))) e = omega (arith, ap (λ (r : Pos). r az) e)
+
+-- ---- octree or lattice
+
+module _ (s : List ℕ) (nx ny nz : ℕ) where
+  abbrev o : Pos
+  o = pos 0 0 0
+
+  all-stand : (l : ℕ) → (1 ≤ l → Taken s nx ny nz l) → Each (Stands (numberAt l (pos nx ny nz) s) (gridVertices l (pos nx ny nz) s)) (gridCells l (pos nx ny nz) s)
+  unfolding numberAt gridVertices gridCells
+  all-stand zero g =
+      let e : Pos = pos nx ny nz in
+      each-map (LatticeVertex e) (Stands (indexOf e) (latticeVertices e)) (named e o) (latticeCells e) (cells-vertices e)
+  all-stand (suc l) g =
+      let t = g (omega arith) in
+      octree-stands s nx ny nz (suc l) t (cells (suc l) (pos nx ny nz) (read (pos nx ny nz) (suc l) s)) (λ x a. a) (packs-all s nx ny nz (suc l) t)
+
+  rise-at : (l : ℕ) → Taken s nx ny nz l → (i j : ℕ) → i < j → j < length (gridVertices l (pos nx ny nz) s)
+      → Before (getD (gridVertices l (pos nx ny nz) s) i (pos 0 0 0)) (getD (gridVertices l (pos nx ny nz) s) j (pos 0 0 0))
+  unfolding gridVertices
+  rise-at zero t = absurd (omega (arith, t .some))
+  rise-at (suc l) t = keys-rise s nx ny nz (suc l) t
+
+  used-at : (l : ℕ) → Taken s nx ny nz l → (j : ℕ) → j < length (gridVertices l (pos nx ny nz) s)
+      → (k : ℕ) × (k < length (flat (numberAt l (pos nx ny nz) s) (gridCells l (pos nx ny nz) s))) × (getD (flat (numberAt l (pos nx ny nz) s) (gridCells l (pos nx ny nz) s)) k 0 ≡ j)
+  unfolding numberAt gridVertices gridCells
+  used-at zero t = absurd (omega (arith, t .some))
+  used-at (suc l) t = keys-used s nx ny nz (suc l) t
+
+  once-at : (l : ℕ) → (1 ≤ l → Taken s nx ny nz l) → (i j : ℕ) → i < j → j < length (gridVertices l (pos nx ny nz) s)
+      → getD (gridVertices l (pos nx ny nz) s) i (pos 0 0 0) ≢ getD (gridVertices l (pos nx ny nz) s) j (pos 0 0 0)
+  unfolding gridVertices
+  once-at zero g i j ij b e =
+      let c : Pos = pos nx ny nz in
+      omega (arith, ap (indexOf c) e, listed c o i (omega arith) .1, listed c o j b .1)
+  once-at (suc l) g i j ij b e = before-differs _ _ (keys-rise s nx ny nz (suc l) (g (omega arith)) i j ij b) e
+
+module _ (p : Plan) (s : List ℕ) (h : 1 ≤ p .levels → Taken s (p .nx) (p .ny) (p .nz) (p .levels)) where
+  abbrev vs : List Pos
+  vs = gridVertices (p .levels) (dimsOf p) s
+
+  abbrev number : Pos → ℕ
+  number = numberAt (p .levels) (dimsOf p) s
+
+  abbrev cs : List Cell
+  cs = gridCells (p .levels) (dimsOf p) s
 
   -- each cell's numbers name its vertices
-  pub cells-name : map (λ r. getD (vertexKeys (p .levels) (dimsOf p) s) r 0) (cellTable p s) ≡ flat keyOf (cells (p .levels) (dimsOf p) (read (dimsOf p) (p .levels) s))
-  unfolding vertexKeys
-  cells-name = ap (map (λ r. getD (vertexKeys (p .levels) (dimsOf p) s) r 0)) table-is ∙ names-some T T (λ x a. a)
+  pub cells-name : map (λ r. getD (gridVertices (p .levels) (dimsOf p) s) r (pos 0 0 0)) (cellTable p s) ≡ cornersOf (gridCells (p .levels) (dimsOf p) s)
+  unfolding cellTable
+  cells-name = names-each number (λ r. getD vs r (pos 0 0 0)) cs (each-map (Stands number vs) _ (λ q r. r .1) cs (all-stand s (p .nx) (p .ny) (p .nz) (p .levels) h))
 
   -- and are below the number of vertices
   pub cells-below : allBelow (vertexCount p s) (cellTable p s) ≡ true
-  unfolding vertexKeys
-  cells-below =
-      let n : vertexCount p s ≡ length (vertexKeys (p .levels) (dimsOf p) s) = ap length (octree-vertices p s h) ∙ map-length p s h (vertexKeys (p .levels) (dimsOf p) s) in
-      ap₂ allBelow n table-is ∙ below-some T T (λ x a. a)
+  unfolding cellTable
+  cells-below = below-each number (length vs) cs (each-map (Stands number vs) _ (λ q r. r .0) cs (all-stand s (p .nx) (p .ny) (p .nz) (p .levels) h))
+
+  -- no vertex stands twice
+  pub vertices-once : (i j : ℕ) → i < j → j < vertexCount p s
+      → getD (gridVertices (p .levels) (dimsOf p) s) i (pos 0 0 0) ≢ getD (gridVertices (p .levels) (dimsOf p) s) j (pos 0 0 0)
+  vertices-once = once-at s (p .nx) (p .ny) (p .nz) (p .levels) h
+
+  module _ (g : 1 ≤ p .levels) where
+    -- an octree's vertices rise by x, then y, then z
+    pub vertices-rise : (i j : ℕ) → i < j → j < vertexCount p s
+        → Before (getD (gridVertices (p .levels) (dimsOf p) s) i (pos 0 0 0)) (getD (gridVertices (p .levels) (dimsOf p) s) j (pos 0 0 0))
+    vertices-rise = rise-at s (p .nx) (p .ny) (p .nz) (p .levels) (h g)
+
+    -- and a cell names each of them
+    pub vertices-used : (j : ℕ) → j < vertexCount p s → (k : ℕ) × (k < length (cellTable p s)) × (getD (cellTable p s) k 0 ≡ j)
+    unfolding cellTable
+    vertices-used = used-at s (p .nx) (p .ny) (p .nz) (p .levels) (h g)

@@ -32,7 +32,7 @@ length-box n f =
     ∙ ap (λ (g : ℕ → ℕ). sums (n az) g 0)
     (fun-ext (λ k. length-run (n ay) _ 0 ∙ ap (λ (g : ℕ → ℕ). sums (n ay) g 0) (fun-ext (λ j. length-run (n ax) (λ i. f (pos i j k)) 0))))
 
-one-each : {A : Type 0} (n : Pos) (f : Pos → A) → length (boxUp n (λ x. f x ∷ [])) ≡ size n
+pub one-each : {A : Type 0} (n : Pos) (f : Pos → A) → length (boxUp n (λ x. f x ∷ [])) ≡ size n
 one-each n f =
     let row : sums (n ax) (λ i. 1) 0 ≡ n ax = sum-flat (n ax) 1 0 ∙ omega arith in
     let layer : sums (n ay) (λ j. n ax) 0 ≡ n ay * n ax = sum-flat (n ay) (n ax) 0 in

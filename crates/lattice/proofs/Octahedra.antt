@@ -15,20 +15,20 @@ use Rattle.lattice.specs.Lattice.{evens, odds, size, doubled, slot, inde
 
 -- ---- the number of a vertex
 
-even-index : (d y p : Pos) → ((a : Axis) → p a ≡ 2 * y a) → indexOf d p ≡ slot (evens d) y
+pub even-index : (d y p : Pos) → ((a : Axis) → p a ≡ 2 * y a) → indexOf d p ≡ slot (evens d) y
 unfolding indexOf
 even-index d y p h =
     let half : (λ a. p a / 2) ≡ y = fun-ext (λ a. omega (arith, h a)) in
     rw (eq-eqb (p ax % 2) 0 (omega (arith, h ax))) (ap (slot (evens d)) half)
 
-odd-index : (d y p : Pos) → ((a : Axis) → p a ≡ 2 * y a + 1) → indexOf d p ≡ size (evens d) + slot (odds d) y
+pub odd-index : (d y p : Pos) → ((a : Axis) → p a ≡ 2 * y a + 1) → indexOf d p ≡ size (evens d) + slot (odds d) y
 unfolding indexOf
 odd-index d y p h =
     let half : (λ a. p a / 2) ≡ y = fun-ext (λ a. omega (arith, h a)) in
     rw (ne-eqb (p ax % 2) 0 (λ e. omega (arith, h ax))) (ap (λ (q : Pos). size (evens d) + slot (odds d) q) half)
 
 -- what holds along the three axes of a frame holds along every axis
-frame-all : (R : ℕ → ℕ → Type 0) (a : Axis) (p q r u v w : ℕ) → R p u → R q v → R r w → (k : Axis) → R (frame a p q r k) (frame a u v w k)
+pub frame-all : (R : ℕ → ℕ → Type 0) (a : Axis) (p q r u v w : ℕ) → R p u → R q v → R r w → (k : Axis) → R (frame a p q r k) (frame a u v w k)
 frame-all R ax p q r u v w x y z ax = x
 frame-all R ax p q r u v w x y z ay = y
 frame-all R ax p q r u v w x y z az = z

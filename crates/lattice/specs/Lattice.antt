@@ -1,8 +1,9 @@
 -- The lattice, as document 01 ("Cells", lattice) and the Rust's Lattice, coords, index and lattice_tetrahedra have it, on integer triples. Assumes
 -- nothing: these are definitions. d are the dimensions.
+use mathlib.Core.Path.{_≡_}
 use mathlib.Core.Bool.{Bool, cond, _&&_}
 use mathlib.Core.List.{List, [], _∷_, _++_}
-use Prim.Native.Nat.{ℕ, _+_, _*_, _-_, _/_, _%_}
+use Prim.Native.Nat.{ℕ, _+_, _*_, _-_, _/_, _%_, _≤_}
 use lib.Dec.{eqb, leb}
 use lib.Ieee.{Float}
 use Rattle.lists.specs.Runs.{run}
@@ -30,6 +31,10 @@ doubled e x = λ a. 2 * x a + e
 -- every vertex: even triples first, then odd ones
 unfoldable pub latticeVertices : Pos → List Pos
 latticeVertices d = boxUp (evens d) (λ x. doubled 0 x ∷ []) ++ boxUp (odds d) (λ x. doubled 1 x ∷ [])
+
+-- a vertex: a triple from 0 to dims, even along every axis or odd along every axis
+abbrev pub LatticeVertex : Pos → Pos → Type 0
+LatticeVertex d q = (a : Axis) → (q a ≤ d a) × (q a % 2 ≡ q ax % 2)
 
 -- the place in a box of n along each axis
 abbrev pub slot : Pos → Pos → ℕ

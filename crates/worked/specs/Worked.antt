@@ -24,8 +24,8 @@ use Rattle.volume.specs.Cell.{pointOf, cornersOf}
 use Rattle.volume.specs.Volume.{volumeOf, sizeOf, verdictOf, verdictAt, leastOf}
 use Rattle.compact.specs.Weighed.{shaped, shapeAt, finalCells}
 use Rattle.compact.specs.Used.{firstUses, usedOf, renumbered}
-use Rattle.lattice.specs.Lattice.{latticeVertices, latticeCells, latticeTable}
-use Rattle.lattice.specs.Worked.{eight, nine}
+use Rattle.cells.specs.Cells.{flat}
+use Rattle.lattice.specs.Lattice.{boxUp, latticeVertices, indexOf, inRange, complete, octahedron, axisCells, centreCells, latticeCells, latticeTable}
 use Rattle.worked.specs.Octree.{unsplit, octree-six}
 use Rattle.worked.specs.Refinement.{Splits, rootAndChild, childAlone, root-and-child, child-alone}
 
@@ -115,7 +115,7 @@ table =
     ∷ []
 
 worked : Every Says table
-unfolding Says table ofBits add sub mul div neg lt ofInt ceilTo allFinite scaleOf dimsOf fitsOn axisOf octantsOf straight straightBox counted axesOf planOf run those place noted seenOf numbersOf any shares touched takenOver addCell labels labelAt componentNumbers isHighest representativesOf pointOf cornersOf volumeOf sizeOf verdictOf verdictAt shaped shapeAt finalCells firstUses usedOf renumbered
+unfolding Says table ofBits add sub mul div neg lt ofInt ceilTo allFinite scaleOf dimsOf fitsOn axisOf octantsOf straight straightBox counted axesOf planOf run those place noted seenOf numbersOf any shares touched takenOver addCell labels labelAt componentNumbers isHighest representativesOf pointOf cornersOf volumeOf sizeOf verdictOf verdictAt shaped shapeAt finalCells firstUses usedOf renumbered boxUp latticeVertices indexOf inRange complete octahedron axisCells centreCells latticeCells flat
 worked =
-    row refl (row eight (row refl (row nine (row refl (row octree-six (row root-and-child (row child-alone
+    row refl (row refl (row refl (row refl (row refl (row octree-six (row root-and-child (row child-alone
     (row refl (row refl (row refl (row refl (row refl (row refl (row refl (row refl (row refl done))))))))))))))))
