@@ -76,6 +76,11 @@ packs-each (c ∷ D) e =
     let r1 = neither (far (c .c0)) (far (c .c1)) (r2 .0) in
     (near-packs (c .c0) (r1 .0), near-packs (c .c1) (r1 .1), near-packs (c .c2) (r2 .1), near-packs (c .c3) (r3 .1), packs-each D (r .1))
 
+-- the keys of the vertices are exactly those of the cells
+pub vertices-exactly : (l : ℕ) (d : Pos) (s : List ℕ) → SameSet (flat keyOf (cells l d (read d l s))) (vertexKeys l d s)
+unfolding vertexKeys
+vertices-exactly l d s = members (flat keyOf (cells l d (read d l s)))
+
 module _ (s : List ℕ) (nx ny nz l : ℕ) (h : Taken s nx ny nz l) where
   abbrev d : Pos
   d = pos nx ny nz
@@ -85,11 +90,6 @@ module _ (s : List ℕ) (nx ny nz l : ℕ) (h : Taken s nx ny nz l) where
 
   abbrev K : List ℕ
   K = vertexKeys l d s
-
-  -- the keys are exactly those of the cells' vertices
-  pub vertices-exactly : SameSet (flat keyOf (cells l (pos nx ny nz) (read (pos nx ny nz) l s))) (vertexKeys l (pos nx ny nz) s)
-  unfolding vertexKeys
-  vertices-exactly = members (flat keyOf C)
 
   packs-all : Each Packs (cells l (pos nx ny nz) (read (pos nx ny nz) l s))
   packs-all = packs-each C (cells-near s nx ny nz l h)
@@ -101,7 +101,7 @@ module _ (s : List ℕ) (nx ny nz l : ℕ) (h : Taken s nx ny nz l) where
       let r = number-of (keyOf q) (flat keyOf C) c in
       (omega (arith, r .0, length-map K tripleOf), map-at tripleOf K 0 (pos 0 0 0) (rank (keyOf q) K) (r .0) ∙ ap tripleOf (r .1) ∙ unpack q p)
 
-  pub octree-stands : (D : List Cell) → ((x : ℕ) → 0 < cnt x (flat keyOf D) → 0 < cnt x (flat keyOf (cells l (pos nx ny nz) (read (pos nx ny nz) l s)))) → Each Packs D
+  octree-stands : (D : List Cell) → ((x : ℕ) → 0 < cnt x (flat keyOf D) → 0 < cnt x (flat keyOf (cells l (pos nx ny nz) (read (pos nx ny nz) l s)))) → Each Packs D
       → Each (Stands (λ x. rank (keyOf x) (vertexKeys l (pos nx ny nz) s)) (map tripleOf (vertexKeys l (pos nx ny nz) s))) D
   unfolding flat cnt
   octree-stands [] a e = tt
@@ -115,7 +115,7 @@ module _ (s : List ℕ) (nx ny nz l : ℕ) (h : Taken s nx ny nz l) where
 
   -- a vertex is that of a cell
   key-counted : (j : ℕ) → j < length (vertexKeys l (pos nx ny nz) s) → 0 < cnt (getD (vertexKeys l (pos nx ny nz) s) j 0) (flat keyOf (cells l (pos nx ny nz) (read (pos nx ny nz) l s)))
-  key-counted j b = omega (arith, cnt-at K j b, vertices-exactly (getD K j 0))
+  key-counted j b = omega (arith, cnt-at K j b, vertices-exactly l d s (getD K j 0))
 
   key-packs : (j : ℕ) → j < length (vertexKeys l (pos nx ny nz) s) → Packs (tripleOf (getD (vertexKeys l (pos nx ny nz) s) j 0))
   key-packs j b = go
@@ -136,7 +136,7 @@ module _ (s : List ℕ) (nx ny nz l : ℕ) (h : Taken s nx ny nz l) where
   key-strict = distinct-strict (flat keyOf C)
 
   -- the vertices rise by x, then y, then z
-  pub keys-rise : (i j : ℕ) → i < j → j < length (map tripleOf (vertexKeys l (pos nx ny nz) s))
+  keys-rise : (i j : ℕ) → i < j → j < length (map tripleOf (vertexKeys l (pos nx ny nz) s))
       → Before (getD (map tripleOf (vertexKeys l (pos nx ny nz) s)) i (pos 0 0 0)) (getD (map tripleOf (vertexKeys l (pos nx ny nz) s)) j (pos 0 0 0))
   keys-rise i j ij b =
       let x : ℕ = getD K i 0 in
@@ -163,7 +163,7 @@ module _ (s : List ℕ) (nx ny nz l : ℕ) (h : Taken s nx ny nz l) where
       go (inr u) (inr w) = omega arith
 
   -- each vertex is named by a cell
-  pub keys-used : (j : ℕ) → j < length (map tripleOf (vertexKeys l (pos nx ny nz) s))
+  keys-used : (j : ℕ) → j < length (map tripleOf (vertexKeys l (pos nx ny nz) s))
       → (k : ℕ) × (k < length (flat (λ q. rank (keyOf q) (vertexKeys l (pos nx ny nz) s)) (cells l (pos nx ny nz) (read (pos nx ny nz) l s))))
       × (getD (flat (λ q. rank (keyOf q) (vertexKeys l (pos nx ny nz) s)) (cells l (pos nx ny nz) (read (pos nx ny nz) l s))) k 0 ≡ j)
   keys-used j b =

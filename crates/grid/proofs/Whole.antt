@@ -1,5 +1,5 @@
 -- The step grid stores the whole of a grid or nothing. Assumes nothing.
-use mathlib.Core.Path.{_≡_, refl, sym, ap, subst₂, _∙_, fun-ext}
+use mathlib.Core.Path.{_≡_, refl, sym, ap, subst, subst₂, _∙_, fun-ext}
 use mathlib.Core.Logic.{_⊎_, inl, inr, _≢_}
 use mathlib.Core.Bool.{Bool, true, false, cond}
 use mathlib.Core.List.{List, [], _∷_, _++_, map}
@@ -23,11 +23,12 @@ use Rattle.plan.specs.declared.Plan.{Plan}
 use Rattle.plan.specs.declared.Planned.{Planned}
 use Rattle.plan.specs.declared.Planned.the-variants as planned
 use Rattle.sides.specs.Told.{Taken}
-use Rattle.lattice.specs.Lattice.{spread}
+use Rattle.lattice.specs.Lattice.{latticeVertices, LatticeVertex, indexOf, spread}
+use Rattle.lattice.proofs.Named.{named, listed}
 use Rattle.lattice.specs.Storing.{dimsOf, tripleAt, pointAt}
 use Rattle.grid.specs.Grid.{gridVertices, cellTable, tripleTable, pointTable}
 use Rattle.grid.specs.Step.{cellCount, vertexCount, lacksCells, lacksVertices, splitRows, filledOf, gridOf, resultAfter, GridDone}
-use Rattle.grid.specs.Whole.{along, threeAt, Whole, Sorted}
+use Rattle.grid.specs.Whole.{along, threeAt, OctreeVertices, LatticeVertices, Whole}
 use Rattle.grid.specs.declared.Gridded.{Gridded}
 use Rattle.grid.specs.declared.Gridded.the-variants.{Done, Refused, NoCells, NoVertices}
 use Rattle.grid.proofs.Outcomes.{length-cells, length-triples, length-points}
@@ -67,30 +68,42 @@ module _ (p : Plan) (s C T P : List ℕ) (h : 1 ≤ p .levels → Taken s (p .nx
   unfolding pointTable
   points-are j b a = spread-at (pointAt p) (gridVertices (p .levels) (dimsOf p) s) P j b a ∙ ap (λ (q : Pos). pointAt p a (q a)) (sym (triples-are j b))
 
-  whole : Whole p s (cellCount p s) (vertexCount p s) (cellTable p s ++ C) (tripleTable p s ++ T) (pointTable p s ++ P)
-  whole = record {
-    cells-all = refl;
-    vertices-all = refl;
-    room = (omega (arith, length-append (cellTable p s) C, length-cells p s), omega (arith, length-append (tripleTable p s) T, length-triples p s), omega (arith, length-append (pointTable p s) P, length-points p s));
-    cells-below = rw front-is (cells-below p s h);
-    cells-stand = rw front-is (map-below (threeAt (tripleTable p s ++ T)) (λ r. getD (gridVertices (p .levels) (dimsOf p) s) r (pos 0 0 0)) (vertexCount p s) (cellTable p s) (cells-below p s h) triples-are ∙ cells-name p s h);
-    vertices-stand = triples-are;
-    vertices-once = λ i j ij b e. vertices-once p s h i j ij b (sym (triples-are i (omega arith)) ∙ e ∙ triples-are j b);
-    points-stand = points-are;
-  }
-
-  sorted : 1 ≤ p .levels → Sorted (cellCount p s) (vertexCount p s) (cellTable p s ++ C) (tripleTable p s ++ T)
-  sorted g = record {
+  octree : 1 ≤ p .levels → OctreeVertices (cellCount p s) (vertexCount p s) (cellTable p s ++ C) (tripleTable p s ++ T)
+  octree g = record {
     rise = λ i j ij b. subst₂ (λ (x y : Pos). Before x y) (sym (triples-are i (omega arith))) (sym (triples-are j b)) (vertices-rise p s h g i j ij b);
     used = λ j b. let r = vertices-used p s h g j b in (r .0, omega (arith, r .1, length-cells p s), List·getD-append (cellTable p s) C 0 (r .0) (r .1) ∙ r .2);
   }
 
-  module _ {n v : ℕ} {c t : List ℕ} (en : n ≡ cellCount p s) (ev : v ≡ vertexCount p s) (ec : c ≡ cellTable p s ++ C) (et : t ≡ tripleTable p s ++ T) where
-    whole-as : {q : List ℕ} → q ≡ pointTable p s ++ P → Whole p s n v c t q
-    whole-as eq = rw (en, ev, ec, et, eq) whole
+  lattice : p .levels ≡ 0 → LatticeVertices (dimsOf p) (vertexCount p s) (tripleTable p s ++ T)
+  unfolding gridVertices
+  lattice z =
+      let e : gridVertices (p .levels) (dimsOf p) s ≡ latticeVertices (dimsOf p) = ap (λ (l : ℕ). gridVertices l (dimsOf p) s) z in
+      let at : (j : ℕ) → j < vertexCount p s → threeAt (tripleTable p s ++ T) j ≡ getD (latticeVertices (dimsOf p)) j (pos 0 0 0) =
+      λ j b. triples-are j b ∙ ap (λ (vs : List Pos). getD vs j (pos 0 0 0)) e
+      in
+      record {
+        each = λ j b. subst (LatticeVertex (dimsOf p)) (sym (at j b)) (listed (dimsOf p) (pos 0 0 0) j (omega (arith, ap length e)) .0);
+        all = λ q k.
+            let r = named (dimsOf p) (pos 0 0 0) q k in
+            let b : indexOf (dimsOf p) q < vertexCount p s = omega (arith, r .0, ap length e) in
+            (b, at (indexOf (dimsOf p) q) b ∙ r .1);
+      }
 
-    sorted-as : 1 ≤ p .levels → Sorted n v c t
-    sorted-as g = rw (en, ev, ec, et) (sorted g)
+  whole : {n v : ℕ} {c t q : List ℕ} → n ≡ cellCount p s → v ≡ vertexCount p s → c ≡ cellTable p s ++ C → t ≡ tripleTable p s ++ T → q ≡ pointTable p s ++ P → Whole p s n v c t q
+  whole en ev ec et eq =
+      rw (en, ev, ec, et, eq)
+      record {
+        cells-all = refl;
+        vertices-all = refl;
+        room = (omega (arith, length-append (cellTable p s) C, length-cells p s), omega (arith, length-append (tripleTable p s) T, length-triples p s), omega (arith, length-append (pointTable p s) P, length-points p s));
+        cells-below = rw front-is (cells-below p s h);
+        cells-stand = rw front-is (map-below (threeAt (tripleTable p s ++ T)) (λ r. getD (gridVertices (p .levels) (dimsOf p) s) r (pos 0 0 0)) (vertexCount p s) (cellTable p s) (cells-below p s h) triples-are ∙ cells-name p s h);
+        vertices-stand = triples-are;
+        vertices-once = λ i j ij b e. vertices-once p s h i j ij b (sym (triples-are i (omega arith)) ∙ e ∙ triples-are j b);
+        points-stand = points-are;
+        octree-vertices = octree;
+        lattice-vertices = lattice;
+      }
 
 -- ---- the step
 
@@ -151,11 +164,7 @@ module _ (b : Bounds) (c : Float) (levels : ℕ) (s C T P w : List ℕ) where
 
       -- an answer: every cell and every vertex stands in the tables
       pub nothing-in-part : (q : Plan) × (planOf b c levels ≡ planned.Ready q) × Whole q s n v C′ T′ P′
-      nothing-in-part = (p, is .ready, whole-as p s _ _ _ takes (is .cells) (is .vertices) (tables .0) (tables .1) (tables .2))
-
-      -- in an octree the vertices rise by x, then y, then z, and a cell names each of them
-      pub octree-sorted : 1 ≤ levels → Sorted n v C′ T′
-      octree-sorted o = sorted-as p s _ _ [] takes (is .cells) (is .vertices) (tables .0) (tables .1) (omega (arith, levels-are b c levels p (is .ready)))
+      nothing-in-part = (p, is .ready, whole p s _ _ _ takes (is .cells) (is .vertices) (tables .0) (tables .1) (tables .2))
 
     -- any other outcome: the result tables are as lent
     pub else-as-lent : ((n v : ℕ) → r ≢ Done n v) → (C′ ≡ C) × (T′ ≡ T) × (P′ ≡ P)

@@ -10,6 +10,7 @@ use Rattle.lists.specs.Tables.{allBelow}
 use Rattle.octants.specs.Oct.{Axis, ax, ay, az, Pos, pos}
 use Rattle.cells.specs.Cells.{Cell}
 use Rattle.numbering.specs.Keys.{Before}
+use Rattle.lattice.specs.Lattice.{LatticeVertex, indexOf}
 use Rattle.lattice.specs.Storing.{pointAt, dimsOf}
 use Rattle.plan.specs.declared.Plan.{Plan}
 use Rattle.grid.specs.Grid.{gridCells, gridVertices}
@@ -29,6 +30,16 @@ along az = 2
 abbrev pub threeAt : List ℕ → ℕ → Pos
 threeAt t j = λ a. getD t (3 * j + along a) 0
 
+-- an octree's vertices rise by x, then y, then z, and a cell names each of them
+pub record OctreeVertices (n v : ℕ) (C T : List ℕ) : Type 0 where
+  pub rise : (i j : ℕ) → i < j → j < v → Before (threeAt T i) (threeAt T j)
+  pub used : (j : ℕ) → j < v → (i : ℕ) × (i < 4 * n) × (getD C i 0 ≡ j)
+
+-- a lattice's are the even and the odd triples from 0 to dims, each at its number
+pub record LatticeVertices (d : Pos) (v : ℕ) (T : List ℕ) : Type 0 where
+  pub each : (j : ℕ) → j < v → LatticeVertex d (threeAt T j)
+  pub all : (q : Pos) → LatticeVertex d q → (indexOf d q < v) × (threeAt T (indexOf d q) ≡ q)
+
 pub record Whole (p : Plan) (s : List ℕ) (n v : ℕ) (C T P : List ℕ) : Type 0 where
   -- all cells and all vertices are counted, and there is an entry for each
   pub cells-all : n ≡ cellCount p s
@@ -42,8 +53,6 @@ pub record Whole (p : Plan) (s : List ℕ) (n v : ℕ) (C T P : List ℕ) : Type
   pub vertices-once : (i j : ℕ) → i < j → j < v → threeAt T i ≢ threeAt T j
   -- each point is that of its triple
   pub points-stand : (j : ℕ) → j < v → (a : Axis) → threeAt P j a ≡ pointAt p a (threeAt T j a)
-
--- an octree's vertices rise by x, then y, then z, and a cell names each of them
-pub record Sorted (n v : ℕ) (C T : List ℕ) : Type 0 where
-  pub rise : (i j : ℕ) → i < j → j < v → Before (threeAt T i) (threeAt T j)
-  pub used : (j : ℕ) → j < v → (i : ℕ) × (i < 4 * n) × (getD C i 0 ≡ j)
+  -- and which vertices these are
+  pub octree-vertices : 1 ≤ p .levels → OctreeVertices n v C T
+  pub lattice-vertices : p .levels ≡ 0 → LatticeVertices (dimsOf p) v T
