@@ -1,6 +1,9 @@
 //! The C boundary, as include/sporeferry.h declares it.
 
-include!(concat!(env!("OUT_DIR"), "/missing.rs"));
+#[path = "../../host/src/boundary.rs"]
+mod boundary;
+
+pub use boundary::*;
 
 /// `sf_bounds`.
 #[repr(C)]
@@ -68,136 +71,4 @@ impl Answer {
             ..Self::of(first, second, 0)
         }
     }
-}
-
-extern "C" {
-    pub fn sf_plan(bounds: Bounds, c: f32, levels: u32) -> Planned;
-    pub fn sf_refine(
-        bounds: Bounds,
-        c: f32,
-        levels: u32,
-        crossing: *const u8,
-        crossing_len: usize,
-        split: *mut u8,
-        split_len: usize,
-    ) -> Answer;
-    pub fn sf_grid(
-        bounds: Bounds,
-        c: f32,
-        levels: u32,
-        split: *const u8,
-        split_len: usize,
-        cells: *mut u32,
-        cells_len: usize,
-        triples: *mut u32,
-        triples_len: usize,
-        points: *mut f32,
-        points_len: usize,
-        work: *mut u64,
-        work_len: usize,
-    ) -> Answer;
-    pub fn sf_representatives(
-        points: *const f32,
-        points_len: usize,
-        cells: *const u32,
-        cells_len: usize,
-        crossing: *const u8,
-        crossing_len: usize,
-        numbers: *mut u32,
-        numbers_len: usize,
-        centroids: *mut f32,
-        centroids_len: usize,
-        work: *mut u32,
-        work_len: usize,
-    ) -> Answer;
-    pub fn sf_keep_cover(
-        c: f32,
-        points: *const f32,
-        points_len: usize,
-        cells: *const u32,
-        cells_len: usize,
-        crossing: *const u8,
-        crossing_len: usize,
-        probe: *const u8,
-        probe_len: usize,
-        kept_points: *mut f32,
-        kept_points_len: usize,
-        kept_cells: *mut u32,
-        kept_cells_len: usize,
-        work: *mut u32,
-        work_len: usize,
-    ) -> Answer;
-    pub fn sf_keep_crust(
-        c: f32,
-        points: *const f32,
-        points_len: usize,
-        cells: *const u32,
-        cells_len: usize,
-        crossing: *const u8,
-        crossing_len: usize,
-        kept_points: *mut f32,
-        kept_points_len: usize,
-        kept_cells: *mut u32,
-        kept_cells_len: usize,
-        work: *mut u32,
-        work_len: usize,
-    ) -> Answer;
-    pub fn sf_components(
-        points: *const f32,
-        points_len: usize,
-        cells: *const u32,
-        cells_len: usize,
-        numbers: *mut u32,
-        numbers_len: usize,
-        work: *mut u32,
-        work_len: usize,
-    ) -> Answer;
-    pub fn sf_one_piece(
-        points: *const f32,
-        points_len: usize,
-        cells: *const u32,
-        cells_len: usize,
-        work: *mut u32,
-        work_len: usize,
-    ) -> Answer;
-    pub fn sf_write_mesh(
-        points: *const f32,
-        points_len: usize,
-        cells: *const u32,
-        cells_len: usize,
-        file: *mut u8,
-        file_len: usize,
-        work: *mut u32,
-        work_len: usize,
-    ) -> Answer;
-    pub fn sf_read_mesh(
-        file: *const u8,
-        file_len: usize,
-        points: *mut f32,
-        points_len: usize,
-        cells: *mut u32,
-        cells_len: usize,
-        work: *mut u32,
-        work_len: usize,
-    ) -> Answer;
-    pub fn sf_write_vtk(
-        points: *const f32,
-        points_len: usize,
-        cells: *const u32,
-        cells_len: usize,
-        file: *mut u8,
-        file_len: usize,
-        work: *mut u32,
-        work_len: usize,
-    ) -> Answer;
-    pub fn sf_read_vtk(
-        file: *const u8,
-        file_len: usize,
-        points: *mut f32,
-        points_len: usize,
-        cells: *mut u32,
-        cells_len: usize,
-        work: *mut u32,
-        work_len: usize,
-    ) -> Answer;
 }

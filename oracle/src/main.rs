@@ -4,20 +4,18 @@ use oracle::steps::{self, Sizes};
 use std::process::ExitCode;
 
 const HELP: &str = "\
-usage: compare [--seed N] [--steps STEP,STEP..] [--long] [--scale F] [--landed]
+usage: compare [--seed N] [--steps STEP,STEP..] [--long] [--scale F]
 
   --seed N     the seed of the inputs (1)
   --steps ..   some steps only
   --long       millions of plans, thousands of octrees and grids, tables at their bounds
   --scale F    F times as many inputs
-  --landed     pass over steps that are not in the library yet, instead of failing
 ";
 
 struct Options {
     seed: u64,
     steps: Vec<String>,
     sizes: Sizes,
-    landed: bool,
 }
 
 fn options(mut args: impl Iterator<Item = String>) -> Result<Options, String> {
@@ -25,7 +23,6 @@ fn options(mut args: impl Iterator<Item = String>) -> Result<Options, String> {
         seed: 1,
         steps: steps::names().into_iter().map(String::from).collect(),
         sizes: Sizes::SHORT,
-        landed: false,
     };
     let mut scale = 1.0;
     while let Some(arg) = args.next() {
@@ -35,7 +32,6 @@ fn options(mut args: impl Iterator<Item = String>) -> Result<Options, String> {
             "--scale" => scale = value()?.parse().map_err(|_| "--scale wants a number")?,
             "--steps" => options.steps = value()?.split(',').map(String::from).collect(),
             "--long" => options.sizes = Sizes::LONG,
-            "--landed" => options.landed = true,
             _ => return Err(HELP.into()),
         }
     }
@@ -64,7 +60,7 @@ fn main() -> ExitCode {
     let chosen: Vec<&str> = options.steps.iter().map(String::as_str).collect();
     let report = steps::run(&chosen, options.seed, &options.sizes);
     print!("seed {}\n{report}", options.seed);
-    if report.differences() == 0 && (options.landed || report.is_complete()) {
+    if report.differences() == 0 {
         ExitCode::SUCCESS
     } else {
         ExitCode::FAILURE

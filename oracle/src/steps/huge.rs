@@ -2,7 +2,7 @@
 //!
 //! What is expected is written down case by case: a copy would not fit in memory.
 
-use super::{in_library, Sizes};
+use super::Sizes;
 use crate::expected::mesh::MOST;
 use crate::library::{
     sf_components, sf_keep_cover, sf_keep_crust, sf_one_piece, sf_read_mesh, sf_read_vtk,
@@ -63,40 +63,36 @@ const LENGTHS: [(usize, usize, u32); 8] = [
 /// A step on a points table and a cells table with every other table empty.
 type OnMesh = fn(*const f32, usize, *const u32, usize) -> Answer;
 
-const ON_MESH: [(&str, &str, OnMesh); 7] = [
-    ("components", "sf_components", |p, pl, c, cl| unsafe {
+const ON_MESH: [(&str, OnMesh); 7] = [
+    ("components", |p, pl, c, cl| unsafe {
         sf_components(p, pl, c, cl, null_mut(), 0, null_mut(), 0)
     }),
-    ("one_piece", "sf_one_piece", |p, pl, c, cl| unsafe {
+    ("one_piece", |p, pl, c, cl| unsafe {
         sf_one_piece(p, pl, c, cl, null_mut(), 0)
     }),
-    ("write_mesh", "sf_write_mesh", |p, pl, c, cl| unsafe {
+    ("write_mesh", |p, pl, c, cl| unsafe {
         sf_write_mesh(p, pl, c, cl, null_mut(), 0, null_mut(), 0)
     }),
-    ("write_vtk", "sf_write_vtk", |p, pl, c, cl| unsafe {
+    ("write_vtk", |p, pl, c, cl| unsafe {
         sf_write_vtk(p, pl, c, cl, null_mut(), 0, null_mut(), 0)
     }),
-    (
-        "representatives",
-        "sf_representatives",
-        |p, pl, c, cl| unsafe {
-            sf_representatives(
-                p,
-                pl,
-                c,
-                cl,
-                null(),
-                0,
-                null_mut(),
-                0,
-                null_mut(),
-                0,
-                null_mut(),
-                0,
-            )
-        },
-    ),
-    ("keep_cover", "sf_keep_cover", |p, pl, c, cl| unsafe {
+    ("representatives", |p, pl, c, cl| unsafe {
+        sf_representatives(
+            p,
+            pl,
+            c,
+            cl,
+            null(),
+            0,
+            null_mut(),
+            0,
+            null_mut(),
+            0,
+            null_mut(),
+            0,
+        )
+    }),
+    ("keep_cover", |p, pl, c, cl| unsafe {
         sf_keep_cover(
             1.0,
             p,
@@ -115,7 +111,7 @@ const ON_MESH: [(&str, &str, OnMesh); 7] = [
             0,
         )
     }),
-    ("keep_crust", "sf_keep_crust", |p, pl, c, cl| unsafe {
+    ("keep_crust", |p, pl, c, cl| unsafe {
         sf_keep_crust(
             1.0,
             p,
@@ -144,10 +140,7 @@ fn tables(report: &mut Report) {
     let Some(pages) = Pages::new(16 * (MOST + 2)) else {
         return;
     };
-    for (step, function, call) in ON_MESH {
-        if !in_library(&[function]) {
-            continue;
-        }
+    for (step, call) in ON_MESH {
         for (points, cells, number) in LENGTHS {
             // With no points no work is missing there; the cells then name a point that is not.
             let needs_cells = matches!(step, "representatives" | "keep_cover" | "keep_crust");
@@ -241,10 +234,6 @@ fn vtk_files(report: &mut Report) {
 
 pub fn run(_: &mut Random, sizes: &Sizes, report: &mut Report) {
     tables(report);
-    if in_library(&["sf_read_mesh"]) {
-        mesh_files(sizes, report);
-    }
-    if in_library(&["sf_read_vtk"]) {
-        vtk_files(report);
-    }
+    mesh_files(sizes, report);
+    vtk_files(report);
 }

@@ -16,7 +16,6 @@ pub mod worked;
 
 pub use crossings::{crossing, shell};
 
-use crate::library::MISSING;
 use crate::random::Random;
 use crate::report::Report;
 
@@ -67,49 +66,32 @@ impl Sizes {
 
 type Run = fn(&mut Random, &Sizes, &mut Report);
 
-/// Each step's name, the C functions it calls, and its runner.
-const STEPS: [(&str, &[&str], Run); 11] = [
-    ("plan", &["sf_plan"], plan::run),
-    ("refine", &["sf_refine"], refine::run),
-    ("grid", &["sf_grid"], grid::run),
-    (
-        "representatives",
-        &["sf_representatives"],
-        keep::run_representatives,
-    ),
-    ("keep_cover", &["sf_keep_cover"], keep::run_cover),
-    ("keep_crust", &["sf_keep_crust"], keep::run_crust),
-    ("components", &["sf_components"], keep::run_components),
-    ("one_piece", &["sf_one_piece"], keep::run_one_piece),
-    (
-        "mesh_file",
-        &["sf_write_mesh", "sf_read_mesh"],
-        files::run_mesh,
-    ),
-    ("vtk", &["sf_write_vtk", "sf_read_vtk"], files::run_vtk),
-    ("huge", &[], huge::run),
+/// Each step's name and its runner.
+const STEPS: [(&str, Run); 11] = [
+    ("plan", plan::run),
+    ("refine", refine::run),
+    ("grid", grid::run),
+    ("representatives", keep::run_representatives),
+    ("keep_cover", keep::run_cover),
+    ("keep_crust", keep::run_crust),
+    ("components", keep::run_components),
+    ("one_piece", keep::run_one_piece),
+    ("mesh_file", files::run_mesh),
+    ("vtk", files::run_vtk),
+    ("huge", huge::run),
 ];
 
 /// The names that `--steps` takes.
 pub fn names() -> Vec<&'static str> {
-    STEPS.map(|(name, _, _)| name).to_vec()
-}
-
-pub fn in_library(functions: &[&str]) -> bool {
-    !functions.iter().any(|name| MISSING.contains(name))
+    STEPS.map(|(name, _)| name).to_vec()
 }
 
 /// Runs the steps chosen, each from the seed alone, so that one step can be run again.
 pub fn run(chosen: &[&str], seed: u64, sizes: &Sizes) -> Report {
     let mut report = Report::default();
-    for (name, functions, run) in STEPS {
-        if !chosen.contains(&name) {
-            continue;
-        }
-        if in_library(functions) {
+    for (name, run) in STEPS {
+        if chosen.contains(&name) {
             run(&mut Random::new(seed), sizes, &mut report);
-        } else {
-            report.missing(name);
         }
     }
     report

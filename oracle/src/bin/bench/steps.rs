@@ -18,7 +18,7 @@ use oracle::calls::{
 use oracle::expected::plan::{aabb, octree, parameters};
 use oracle::lent::{Entry, Lent};
 use oracle::random::Random;
-use oracle::steps::{boxes, in_library};
+use oracle::steps::boxes;
 use std::hint::black_box;
 use std::rc::Rc;
 
@@ -36,9 +36,6 @@ fn answered<C: Call<Outcome = oracle::library::Answer>>(call: &mut C) -> f64 {
 
 /// A hundred thousand plans of boxes of every kind that the Rust takes too.
 pub fn plans(table: &mut Table) {
-    if !in_library(&["sf_plan"]) {
-        return;
-    }
     let mut random = Random::new(1);
     let calls: Vec<PlanCall> = (0..100_000)
         .map(|_| boxes::small(&mut random, 0).0)
@@ -94,22 +91,20 @@ fn refine(input: &Input, table: &mut Table) -> Tree {
         let oracle = MeshOracle::of_octants(tree.layout(), &input.crossing);
         timed(|| refined_octree(&oracle, tree))
     };
-    if in_library(&["sf_refine"]) {
-        let octants = input.crossing.len();
-        let mut call = RefineCall {
-            plan: plan.clone(),
-            crossing: Lent::new(&input.crossing),
-            split: dirty(octants),
-        };
-        let size = format!("{} octants", thousands(octants));
-        table.row(
-            "refine",
-            &input.name,
-            &size,
-            || refined().1,
-            || answered(&mut call),
-        );
-    }
+    let octants = input.crossing.len();
+    let mut call = RefineCall {
+        plan: plan.clone(),
+        crossing: Lent::new(&input.crossing),
+        split: dirty(octants),
+    };
+    let size = format!("{} octants", thousands(octants));
+    table.row(
+        "refine",
+        &input.name,
+        &size,
+        || refined().1,
+        || answered(&mut call),
+    );
     refined().0
 }
 
@@ -123,9 +118,6 @@ fn rust_grid(input: &Input, tree: &Option<Tree>) -> (BackgroundGrid, f64) {
 
 fn grid(input: &Input, tree: Option<Tree>, table: &mut Table) -> BackgroundGrid {
     let (found, _) = rust_grid(input, &tree);
-    if !in_library(&["sf_grid"]) {
-        return found;
-    }
     let (cells, vertices) = (found.cells.len(), found.points.len());
     let split = tree.as_ref().map_or(Vec::new(), |tree| tree.split_table());
     let mut call = GridCall {
@@ -190,9 +182,6 @@ impl<'a> Meshed<'a> {
     }
 
     fn representatives(&self, table: &mut Table) {
-        if !in_library(&["sf_representatives"]) {
-            return;
-        }
         let (points, cells) = self.counts();
         let crossed: Vec<bool> = self.crossing.iter().map(|byte| *byte == 1).collect();
         let rust = || {
@@ -220,13 +209,10 @@ impl<'a> Meshed<'a> {
     }
 
     fn keep(&self, table: &mut Table, cover: bool) {
-        let (step, function, enclosure) = match cover {
-            true => ("keep_cover", "sf_keep_cover", MeshEnclosure::Cover),
-            false => ("keep_crust", "sf_keep_crust", MeshEnclosure::Crust),
+        let (step, enclosure) = match cover {
+            true => ("keep_cover", MeshEnclosure::Cover),
+            false => ("keep_crust", MeshEnclosure::Crust),
         };
-        if !in_library(&[function]) {
-            return;
-        }
         let (points, cells) = self.counts();
         let parameters = VolumeMeshParameters {
             enclosure,
@@ -257,9 +243,6 @@ impl<'a> Meshed<'a> {
     }
 
     fn components(&self, table: &mut Table) {
-        if !in_library(&["sf_components"]) {
-            return;
-        }
         let (points, cells) = self.counts();
         let mesh = self.volume_mesh();
         let mut call = ComponentsCall {
@@ -274,9 +257,6 @@ impl<'a> Meshed<'a> {
     }
 
     fn one_piece(&self, table: &mut Table) {
-        if !in_library(&["sf_one_piece"]) {
-            return;
-        }
         let mesh = self.volume_mesh();
         let mut call = OnePieceCall {
             input: self.input.clone(),
@@ -289,14 +269,8 @@ impl<'a> Meshed<'a> {
     }
 
     fn files(&self, table: &mut Table) {
-        for (format, functions) in [
-            (Format::Mesh, ["sf_write_mesh", "sf_read_mesh"]),
-            (Format::Vtk, ["sf_write_vtk", "sf_read_vtk"]),
-        ] {
-            if in_library(&functions) {
-                self.file(format, table);
-            }
-        }
+        self.file(Format::Mesh, table);
+        self.file(Format::Vtk, table);
     }
 
     /// The least that a writer or a reader in Rust must do: number the components and move the bytes.
