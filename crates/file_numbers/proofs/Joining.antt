@@ -6,11 +6,11 @@ use mathlib.Core.List.{List, []}
 use Prim.Native.Nat.{ℕ, suc, _+_, _*_, _/_, _%_, _≤_, _<_}
 use native.Mathlib.Omega.{arith}
 use lib.ListN.{length, getD}
+use Rattle.lists.specs.Tables.{cellsOf, most}
 use Rattle.words.specs.Words.{wordAt, placeOf, wordsAt, spanOf}
 use Rattle.words.proofs.Words.{in-span, words-at, length-words}
-use Rattle.links.specs.Forest.{Forest, Joined}
-use Rattle.links.specs.Vertices.{Vertices, JoinedAt}
-use Rattle.links.proofs.Vertexes.{joined-at}
+use Rattle.links.specs.Vertices.{Cells, JoinedCell}
+use Rattle.links.proofs.Vertexes.{joined-cell}
 
 -- the first words of more
 words-less : (big led : Bool) (b : List ℕ) (at n m i : ℕ) → m ≤ n → i < m → getD (wordsAt big led b at m) i 0 ≡ getD (wordsAt big led b at n) i 0
@@ -21,50 +21,44 @@ unfolding spanOf
 span-less false m n h = omega arith
 span-less true m n h = omega arith
 
-pub span-here : (led : Bool) (at n q size : ℕ) → at + spanOf led n ≤ size → q < n → at + spanOf led (q + 1) ≤ size
-span-here led at n q size s h = omega (arith, span-less led (q + 1) n (omega arith))
+-- the words of the cell i are there, where those of all cells are
+pub span-here : (led : Bool) (at n i size : ℕ) → at + spanOf led (4 * n) ≤ size → i < n → at + spanOf led (i * 4 + 4) ≤ size
+span-here led at n i size s h = omega (arith, span-less led (i * 4 + 4) (4 * n) (omega arith))
 
-module _ (big led : Bool) (b : List ℕ) (at n q : ℕ) (h : q < n) where
-  pub vertices-less : {P : List ℕ} → Vertices (wordsAt big led b at n) P → Vertices (wordsAt big led b at (q + 1)) P
-  vertices-less v = record {
+module _ (big led : Bool) (b : List ℕ) (at n i : ℕ) (h : i < n) where
+  -- the cells up to i, and the cell i among all
+  pub cells-less : {m : ℕ} → Cells (wordsAt big led b at (4 * n)) m → Cells (wordsAt big led b at (i * 4 + 4)) m
+  cells-less v = record {
+    whole = omega (arith, length-words big led b at (i * 4 + 4));
+    few = omega (arith, length-words big led b at (i * 4 + 4), length-words big led b at (4 * n), v .few);
     small = v .small;
-    points =
+    names =
         λ p k.
-        let g : p < q + 1 = omega (arith, length-words big led b at (q + 1)) in
-        omega (arith, words-less big led b at n (q + 1) p (omega arith) g, v .points p (omega (arith, length-words big led b at n)));
+        let g : p < i * 4 + 4 = omega (arith, length-words big led b at (i * 4 + 4)) in
+        omega (arith, words-less big led b at (4 * n) (i * 4 + 4) p (omega arith) g, v .names p (omega (arith, length-words big led b at (4 * n))));
   }
 
-  pub joined-more : {P P′ : List ℕ} → JoinedAt (wordsAt big led b at (q + 1)) [] P P′ q → JoinedAt (wordsAt big led b at n) [] P P′ q
-  joined-more {P} {P′} j = record {
-    forest = j .forest;
-    apart = j .apart;
-    joined =
-        λ d e.
-        subst₂ (λ (x y : ℕ). Joined P P′ x y) (words-less big led b at n (q + 1) (q / 4 * 4) (omega arith) (omega arith))
-        (words-less big led b at n (q + 1) q (omega arith) (omega arith)) (j .joined d e);
-  }
+  same-word : (s : ℕ) → s < 4 → getD (wordsAt big led b at (i * 4 + 4)) (i * 4 + s) 0 ≡ getD (wordsAt big led b at (4 * n)) (i * 4 + s) 0
+  same-word s k = words-less big led b at (4 * n) (i * 4 + 4) (i * 4 + s) (omega arith) (omega arith)
 
--- ---- `join_at`
+  pub joined-more : {P P′ : List ℕ} → JoinedCell (wordsAt big led b at (i * 4 + 4)) [] P P′ i → JoinedCell (wordsAt big led b at (4 * n)) [] P P′ i
+  joined-more {P} {P′} j =
+      joined-cell _ [] P P′ i _ _ _ _ refl
+      (words-less big led b at (4 * n) (i * 4 + 4) (i * 4) (omega arith) (omega arith)) (same-word 1 (omega arith)) (same-word 2 (omega arith)) (same-word 3 (omega arith))
+      (j .joined refl)
 
-module _ (big led : Bool) (b P : List ℕ) (at q : ℕ) (v : Vertices (wordsAt big led b at (q + 1)) P) (s : at + spanOf led (q + 1) ≤ length b) where
-  pub first-in : at + 4 * placeOf led (q / 4 * 4) + 4 ≤ length b
-  first-in = let k : q / 4 * 4 < q + 1 = omega arith in omega (arith, in-span led (q / 4 * 4) (q + 1) k)
+-- ---- `join_cell`
 
-  pub own-in : at + 4 * placeOf led q + 4 ≤ length b
-  own-in = let k : q < q + 1 = omega arith in omega (arith, in-span led q (q + 1) k)
+pub word-in : (led : Bool) (at i s size : ℕ) → s < i * 4 + 4 → at + spanOf led (i * 4 + 4) ≤ size → at + 4 * placeOf led s + 4 ≤ size
+word-in led at i s size k h = omega (arith, in-span led s (i * 4 + 4) k)
 
-  module _ (x y : ℕ) (ex : x ≡ wordAt big b (at + 4 * placeOf led (q / 4 * 4))) (ey : y ≡ wordAt big b (at + 4 * placeOf led q)) where
-    x-is : x ≡ getD (wordsAt big led b at (q + 1)) (q / 4 * 4) 0
-    x-is = ex ∙ sym (words-at big led b at (q + 1) (q / 4 * 4) (omega arith))
+module _ (big led : Bool) (b : List ℕ) (at i : ℕ) where
+  pub cell-few : {m : ℕ} → Cells (wordsAt big led b at (i * 4 + 4)) m → i < most
+  cell-few v = omega (arith, v .few, length-words big led b at (i * 4 + 4))
 
-    y-is : y ≡ getD (wordsAt big led b at (q + 1)) q 0
-    y-is = ey ∙ sym (words-at big led b at (q + 1) q (omega arith))
+  pub cell-last : i < cellsOf (wordsAt big led b at (i * 4 + 4))
+  cell-last = omega (arith, length-words big led b at (i * 4 + 4))
 
-    pub x-point : x < length P
-    x-point = omega (arith, x-is, v .points (q / 4 * 4) (omega (arith, length-words big led b at (q + 1))))
-
-    pub y-point : y < length P
-    y-point = omega (arith, y-is, v .points q (omega (arith, length-words big led b at (q + 1))))
-
-    pub pair-joined : {P′ : List ℕ} → q % 4 ≢ 0 → Joined P P′ x y → JoinedAt (wordsAt big led b at (q + 1)) [] P P′ q
-    pair-joined d j = joined-at _ [] P _ q x y d refl x-is y-is j
+  -- a word that was read is the vertex
+  pub vertex-is : (s x y : ℕ) → s < i * 4 + 4 → x ≡ y → y ≡ wordAt big b (at + 4 * placeOf led s) → x ≡ getD (wordsAt big led b at (i * 4 + 4)) s 0
+  vertex-is s x y k e e′ = e ∙ e′ ∙ sym (words-at big led b at (i * 4 + 4) s k)

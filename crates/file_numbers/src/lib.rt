@@ -8,33 +8,33 @@ ghost use lib.Seq.{sets};
 ghost use Rattle.lists.specs.Tables.{same, cellsOf};
 ghost use Rattle.words.specs.Words.{bytesOf, wordsAt, spanOf};
 ghost use Rattle.links.specs.Forest.{Forest};
-ghost use Rattle.links.specs.Vertices.{Cells, Vertices, JoinedAt, Joint};
+ghost use Rattle.links.specs.Vertices.{Cells, JoinedCell, Joint};
 ghost use Rattle.components.specs.Numbers.{componentNumbers, Linked, Fits};
 ghost use Rattle.file_numbers.specs.Stored.{Told, Noted};
 
-// Joins the vertex at q with the first one of its cell, unless it is that.
-fn join_at(file: &[u8], at: usize, big: bool, led: bool, parent: &mut [u32], q: usize)
-    requires { ⌜ Vertices (wordsAt big led (now file) at (q + 1)) (now parent) × Forest (now parent) × (at + spanOf led (q + 1) ≤ length (now file)) ⌝ }
-    ensures { λ _. ⌜ JoinedAt (wordsAt big led (now (file .entry)) at (q + 1)) [] (now (parent .entry)) (now (parent .exit)) q ⌝ }
+// Joins the vertices of the cell i.
+fn join_cell(file: &[u8], at: usize, big: bool, led: bool, parent: &mut [u32], i: usize)
+    requires { ⌜ Cells (wordsAt big led (now file) at (i * 4 + 4)) (length (now parent)) × Forest (now parent) × (at + spanOf led (i * 4 + 4) ≤ length (now file)) ⌝ }
+    ensures { λ _. ⌜ JoinedCell (wordsAt big led (now (file .entry)) at (i * 4 + 4)) [] (now (parent .entry)) (now (parent .exit)) i ⌝ }
 {
-    if q % 4 == 0 {
-        return;
-    }
-    let x = lists::wide(words::word_of(file, at, big, led, q / 4 * 4));
-    let y = lists::wide(words::word_of(file, at, big, led, q));
-    links::join(parent, x, y);
+    let first = i * 4;
+    let a = lists::wide(words::word_of(file, at, big, led, first));
+    let b = lists::wide(words::word_of(file, at, big, led, first + 1));
+    let c = lists::wide(words::word_of(file, at, big, led, first + 2));
+    let d = lists::wide(words::word_of(file, at, big, led, first + 3));
+    links::join_four(parent, a, b, c, d);
 }
 
-// The groups of the points that cells in a file join, which are n words, from a table that holds anything.
-fn link(file: &[u8], at: usize, big: bool, led: bool, n: usize, parent: &mut [u32])
-    requires { ⌜ Vertices (wordsAt big led (now file) at n) (now parent) × (at + spanOf led n ≤ length (now file)) ⌝ }
-    ensures { λ _. ⌜ Joint (wordsAt big led (now (file .entry)) at n) [] (now (parent .exit)) ⌝ }
+// The groups of the points that cells in a file join, from a table that holds anything.
+fn link(file: &[u8], at: usize, big: bool, led: bool, cells: usize, parent: &mut [u32])
+    requires { ⌜ Cells (wordsAt big led (now file) at (4 * cells)) (length (now parent)) × (at + spanOf led (4 * cells) ≤ length (now file)) ⌝ }
+    ensures { λ _. ⌜ Joint (wordsAt big led (now (file .entry)) at (4 * cells)) [] (now (parent .exit)) ⌝ }
 {
     links::start(parent);
-    let mut q: usize = 0;
-    while q < n {
-        join_at(file, at, big, led, parent, q);
-        q += 1;
+    let mut i: usize = 0;
+    while i < cells {
+        join_cell(file, at, big, led, parent, i);
+        i += 1;
     }
 }
 
@@ -43,7 +43,7 @@ fn prepare(file: &[u8], at: usize, big: bool, led: bool, cells: usize, work: &mu
     requires { ⌜ Cells (wordsAt big led (now file) at (4 * cells)) n × (length (now work) ≡ 2 * n) × (at + spanOf led (4 * cells) ≤ length (now file)) ⌝ }
     ensures { λ _. ⌜ Linked (wordsAt big led (now (file .entry)) at (4 * cells)) (now (work .exit)) n ⌝ }
 {
-    link(file, at, big, led, 4 * cells, &mut work[..n]);
+    link(file, at, big, led, cells, &mut work[..n]);
     lists::zero(&mut work[n..]);
 }
 

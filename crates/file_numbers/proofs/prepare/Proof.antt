@@ -1,10 +1,8 @@
 use mathlib.Core.Path.{_≡_, sym, _∙_}
-use Prim.Native.Nat.{_*_}
 use native.Mathlib.Omega.{arith}
 use lib.Seq.{length-take-le}
 use Rattle.links.proofs.Vertexes.{vertices}
 use Rattle.components.proofs.Working.{linked}
-use Rattle.words.proofs.Words.{length-words}
 use borrow.Author.Needs.{needs}
 use Rattle.file_numbers.proofs.prepare.Statement.{statement}
 use Rattle.file_numbers.proofs.prepare.Tie as tie
@@ -12,9 +10,6 @@ use Rattle.file_numbers.proofs.prepare.Reads as reads
 use Rattle.file_numbers.proofs.prepare.Lts as lts
 use Rattle.file_numbers.proofs.link.Reads as link-reads
 use Rattle.lists.proofs.zero.Reads as zero-reads
-
-mul-link : tie.Need-mul-link
-mul-link c = let s = c .before .before .args in omega (arith, c .before .before .pre .0 .few, length-words (s .big) (s .led) (s .file .now) (s .at) (4 * s .cells))
 
 slice-relend-prefix-link : tie.Need-slice-relend-prefix-link
 slice-relend-prefix-link c = search needs
@@ -50,7 +45,6 @@ pub prepare-spec : {M : Type 1} → statement M
 prepare-spec =
     tie.close
     (tie.spec
-    mul-link
     slice-relend-prefix-link
     slice-aggregate-link
     link-requires
