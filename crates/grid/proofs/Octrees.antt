@@ -4,18 +4,19 @@ use mathlib.Core.List.{List, [], _∷_, _++_, map}
 use Prim.Native.Nat.{ℕ, zero, suc, _+_, _*_, _-_, _^_, _≤_, _<_, min}
 use native.Mathlib.Nat.{pow-suc, mul-le-mul}
 use native.Mathlib.Omega.{arith}
-use lib.ListN.{length, getD, take, drop, length-append, length-drop}
-use lib.Seq.{sets, sets-eq, length-take-le, take-at, drop-at, length-sets}
+use lib.ListN.{length, getD, take, drop, length-append, length-drop, take-append-drop}
+use lib.Seq.{sets, sets-eq, length-take-le, take-at, drop-at, drop-drop, take-append-le, length-sets}
 use borrow.Rule.Slice.PartMut.{putMid, postOf, same-len-mid, mid-len}
-use Rattle.lists.specs.Counts.{cnt, SameSet}
+use Rattle.lists.specs.Counts.{cnt, SameSet, SortedTo}
 use Rattle.octants.specs.Oct.{Axis, ax, ay, az, Pos, pos, Tree}
 use Rattle.octants.specs.Table.{off, size, depth, read}
 use Rattle.cells.specs.Cells.{Cell, cells, flat}
 use Rattle.plan.specs.declared.Plan.{Plan}
 use Rattle.numbering.specs.Keys.{keyOf, tripleOf}
-use Rattle.numbering.specs.Distinct.{distinctSorted, rank, numbered, Lookup}
+use Rattle.numbering.specs.Distinct.{distinctSorted, rank, numbered, Indexes}
 use Rattle.numbering.proofs.Members.{same-distinct}
-use Rattle.numbering.proofs.Ranks.{numbered-front, find-ready}
+use Rattle.numbering.proofs.Ranks.{numbered-front, numbered-order}
+use Rattle.numbering.proofs.Indexing.{same-order, find-ready}
 use Rattle.lattice.specs.Lattice.{spread}
 use Rattle.lattice.specs.Storing.{dimsOf, tripleAt, pointAt}
 use Rattle.grid.specs.Grid.{gridCells, gridVertices, vertexKeys, numberAt, cellTable, tripleTable, pointTable}
@@ -60,32 +61,46 @@ places-few d (suc k) h =
 
 -- ---- the list of leaves behind the keys
 
-module _ (w L K : List ℕ) (n : ℕ) (h : 10 * n ≤ length w) (el : length L ≡ n) (ek : length K ≡ 9 * n) where
+-- a front that is written anew leaves what stands behind it
+behind : (a z : List ℕ) (i : ℕ) → length a ≡ i → drop (i + 1) (a ++ drop i z) ≡ drop (i + 1) z
+behind a z i e =
+    sym (drop-drop 1 i (a ++ drop i z)) ∙ ap (drop 1) (drop-at a (drop i z) i e) ∙ drop-drop 1 i z
+
+front-of : (v m : ℕ) (z : List ℕ) → v ≤ m → m ≤ length z → take v (take m z) ≡ take v z
+front-of v m z h f =
+    sym (take-append-le v (take m z) (drop m z) (omega (arith, length-take-le m z f))) ∙ ap (take v) (take-append-drop m z)
+
+module _ (w L K : List ℕ) (n : ℕ) (h : 10 * n < length w) (el : length L ≡ n) (ek : length K ≡ 9 * n) where
   abbrev listed : List ℕ
-  listed = putMid (9 * n) (10 * n - 9 * n) w L
+  listed = putMid (9 * n + 1) (9 * n + 1 + n - (9 * n + 1)) w L
 
-  pub listed-length : length (putMid (9 * n) (10 * n - 9 * n) w L) ≡ length w
-  listed-length = same-len-mid (9 * n) (10 * n - 9 * n) w L (el ∙ sym (mid-len (9 * n) (10 * n) w h ∙ omega arith))
+  pub listed-length : length (putMid (9 * n + 1) (9 * n + 1 + n - (9 * n + 1)) w L) ≡ length w
+  listed-length =
+      same-len-mid (9 * n + 1) (9 * n + 1 + n - (9 * n + 1)) w L (el ∙ sym (mid-len (9 * n + 1) (9 * n + 1 + n) w (omega arith) ∙ omega arith))
 
-  pub list-behind : take n (drop (9 * n) (putMid (9 * n) (10 * n - 9 * n) w L)) ≡ L
+  pub list-behind : take n (drop (9 * n + 1) (putMid (9 * n + 1) (9 * n + 1 + n - (9 * n + 1)) w L)) ≡ L
   list-behind =
-      ap (take n) (drop-at (take (9 * n) w) (L ++ postOf (9 * n) (10 * n - 9 * n) w) (9 * n) (length-take-le (9 * n) w (omega arith)))
-      ∙ take-at L (postOf (9 * n) (10 * n - 9 * n) w) n el
+      ap (take n) (drop-at (take (9 * n + 1) w) (L ++ postOf (9 * n + 1) (9 * n + 1 + n - (9 * n + 1)) w) (9 * n + 1) (length-take-le (9 * n + 1) w (omega arith)))
+      ∙ take-at L (postOf (9 * n + 1) (9 * n + 1 + n - (9 * n + 1)) w) n el
 
-  keyed : sets (putMid (9 * n) (10 * n - 9 * n) w L) 0 K ≡ K ++ drop (9 * n) (putMid (9 * n) (10 * n - 9 * n) w L)
+  keyed : sets (putMid (9 * n + 1) (9 * n + 1 + n - (9 * n + 1)) w L) 0 K ≡ K ++ drop (9 * n) (putMid (9 * n + 1) (9 * n + 1 + n - (9 * n + 1)) w L)
   keyed =
       let e : 0 + length K ≡ 9 * n = omega arith in
       sets-eq K listed 0 (omega (arith, listed-length)) ∙ ap (λ (i : ℕ). K ++ drop i listed) e
 
-  pub keys-front : take (9 * n) (sets (putMid (9 * n) (10 * n - 9 * n) w L) 0 K) ≡ K
+  pub keys-front : take (9 * n) (sets (putMid (9 * n + 1) (9 * n + 1 + n - (9 * n + 1)) w L) 0 K) ≡ K
   keys-front = ap (take (9 * n)) keyed ∙ take-at K (drop (9 * n) listed) (9 * n) ek
 
-  pub keys-rest : drop (9 * n) (sets (putMid (9 * n) (10 * n - 9 * n) w L) 0 K) ≡ drop (9 * n) (putMid (9 * n) (10 * n - 9 * n) w L)
-  keys-rest = ap (drop (9 * n)) keyed ∙ drop-at K (drop (9 * n) listed) (9 * n) ek
-
-  -- numbered in front, the list behind
-  pub list-still : (M : List ℕ) → length M ≡ 9 * n → take n (drop (9 * n) (M ++ drop (9 * n) (sets (putMid (9 * n) (10 * n - 9 * n) w L) 0 K))) ≡ L
-  list-still M em = ap (take n) (drop-at M (drop (9 * n) (sets listed 0 K)) (9 * n) em ∙ keys-rest) ∙ list-behind
+  -- numbered in front, then indexed, the list behind
+  pub list-still : (M Q w₂ : List ℕ) → w₂ ≡ sets (putMid (9 * n + 1) (9 * n + 1 + n - (9 * n + 1)) w L) 0 K → length M ≡ 9 * n → length Q ≡ 9 * n + 1
+      → take n (drop (9 * n + 1) (Q ++ drop (9 * n + 1) (M ++ drop (9 * n) w₂))) ≡ L
+  list-still M Q w₂ e em eq =
+      ap (take n)
+      (drop-at Q (drop (9 * n + 1) (M ++ drop (9 * n) w₂)) (9 * n + 1) eq
+      ∙ behind M w₂ (9 * n) em
+      ∙ ap (drop (9 * n + 1)) (e ∙ keyed)
+      ∙ behind K listed (9 * n) ek)
+      ∙ list-behind
 
 -- ---- the tables
 
@@ -193,13 +208,13 @@ module _ (s : List ℕ) (nx ny nz l n : ℕ) (w : List ℕ) (h : Numberable s nx
   L = leafList l (pos nx ny nz) (read (pos nx ny nz) l s)
 
   abbrev listed-work : List ℕ → List ℕ
-  listed-work z = putMid (9 * n) (10 * n - 9 * n) w z
+  listed-work z = putMid (9 * n + 1) (9 * n + 1 + n - (9 * n + 1)) w z
 
   pub list-length : {z : List ℕ} → z ≡ leafList l (pos nx ny nz) (read (pos nx ny nz) l s) → length z ≡ n
   list-length e = ap length e ∙ sym (h .leaves)
 
   module _ (z : List ℕ) (ez : z ≡ leafList l (pos nx ny nz) (read (pos nx ny nz) l s)) where
-    pub standing : Standing s nx ny nz l (putMid (9 * n) (10 * n - 9 * n) w z) (9 * n) n
+    pub standing : Standing s nx ny nz l (putMid (9 * n + 1) (9 * n + 1 + n - (9 * n + 1)) w z) (9 * n + 1) n
     standing = record {
       fits = omega (arith, listed-length w z (replicate (9 * n) 0) n (h .room) (list-length ez) (length-replicate (9 * n) zero), h .room);
       many = h .leaves;
@@ -207,19 +222,19 @@ module _ (s : List ℕ) (nx ny nz l n : ℕ) (w : List ℕ) (h : Numberable s nx
     }
 
     abbrev K : List ℕ
-    K = keysFrom (putMid (9 * n) (10 * n - 9 * n) w z) (9 * n) n
+    K = keysFrom (putMid (9 * n + 1) (9 * n + 1 + n - (9 * n + 1)) w z) (9 * n + 1) n
 
-    keys-long : length (keysFrom (putMid (9 * n) (10 * n - 9 * n) w z) (9 * n) n) ≡ 9 * n
-    keys-long = length-run n _ 0 ∙ sum-same n _ _ 0 (λ j a b. keys-nine (getD (listed-work z) (9 * n + j) 0)) ∙ sum-flat n 9 0 ∙ omega arith
+    keys-long : length (keysFrom (putMid (9 * n + 1) (9 * n + 1 + n - (9 * n + 1)) w z) (9 * n + 1) n) ≡ 9 * n
+    keys-long = length-run n _ 0 ∙ sum-same n _ _ 0 (λ j a b. keys-nine (getD (listed-work z) (9 * n + 1 + j) 0)) ∙ sum-flat n 9 0 ∙ omega arith
 
-    keys-same : distinctSorted (keysFrom (putMid (9 * n) (10 * n - 9 * n) w z) (9 * n) n) ≡ vertexKeys l (pos nx ny nz) s
+    keys-same : distinctSorted (keysFrom (putMid (9 * n + 1) (9 * n + 1 + n - (9 * n + 1)) w z) (9 * n + 1) n) ≡ vertexKeys l (pos nx ny nz) s
     unfolding vertexKeys
     keys-same =
-        ap distinctSorted (sym (keys-by s nx ny nz l (h .taken) (listed-work z) (9 * n) n standing))
+        ap distinctSorted (sym (keys-by s nx ny nz l (h .taken) (listed-work z) (9 * n + 1) n standing))
         ∙ same-distinct _ _ (same-vertices s nx ny nz l (h .taken))
 
     keys-below : allBelow most K ≡ true
-    keys-below = below-run most (λ j. keysIn (getD (listed-work z) (9 * n + j) 0)) n 0 (λ j a b. leaf-below (getD (listed-work z) (9 * n + j) 0) (all-placed s nx ny nz l (h .taken) (listed-work z) (9 * n) n standing j (omega arith)))
+    keys-below = below-run most (λ j. keysIn (getD (listed-work z) (9 * n + 1 + j) 0)) n 0 (λ j a b. leaf-below (getD (listed-work z) (9 * n + 1 + j) 0) (all-placed s nx ny nz l (h .taken) (listed-work z) (9 * n + 1) n standing j (omega arith)))
 
     leaves-few : n ≤ 8388608
     leaves-few =
@@ -227,7 +242,7 @@ module _ (s : List ℕ) (nx ny nz l n : ℕ) (w : List ℕ) (h : Numberable s nx
         omega (arith, a, h .leaves, places-few (pos nx ny nz) l (h .taken .some), h .taken .whole, h .octants)
 
     -- what the sort of the keys leaves
-    module _ (M : List ℕ) (v : ℕ) (w₂ : List ℕ) (e₂ : w₂ ≡ sets (putMid (9 * n) (10 * n - 9 * n) w z) 0 (keysFrom (putMid (9 * n) (10 * n - 9 * n) w z) (9 * n) n))
+    module _ (M : List ℕ) (v : ℕ) (w₂ : List ℕ) (e₂ : w₂ ≡ sets (putMid (9 * n + 1) (9 * n + 1 + n - (9 * n + 1)) w z) 0 (keysFrom (putMid (9 * n + 1) (9 * n + 1 + n - (9 * n + 1)) w z) (9 * n + 1) n))
         (lm : length M ≡ length (take (9 * n) w₂)) (em : M ≡ numbered (take (9 * n) w₂)) (ev : v ≡ length (distinctSorted (take (9 * n) w₂))) where
       front-is : take (9 * n) w₂ ≡ K
       front-is = ap (take (9 * n)) e₂ ∙ keys-front w z K n (h .room) (list-length ez) keys-long
@@ -244,24 +259,61 @@ module _ (s : List ℕ) (nx ny nz l n : ℕ) (w : List ℕ) (h : Numberable s nx
       v-few : v < 2 ^ 32
       v-few = omega (arith, v-is, distinct-short K, keys-long, leaves-few)
 
-      abbrev work-is : List ℕ
-      work-is = M ++ drop (9 * n) w₂
+      abbrev w₃ : List ℕ
+      w₃ = M ++ drop (9 * n) w₂
 
       fronts : take v (M ++ drop (9 * n) w₂) ≡ distinctSorted K
       fronts =
           ap₂ (λ (i : ℕ) (q : List ℕ). take i (q ++ drop (9 * n) w₂)) v-is m-is ∙ numbered-front K (drop (9 * n) w₂)
 
-      pub ready : Ready s nx ny nz l n (M ++ drop (9 * n) w₂) v
-      ready = record {
-        lookup = subst₂ (λ (i : ℕ) (q : List ℕ). Lookup (q ++ drop (9 * n) w₂) i) (sym v-is) (sym m-is) (find-ready K (drop (9 * n) w₂) (omega (arith, v-few, v-is)));
-        keys = fronts ∙ keys-same;
-        small = small′;
-        list = ap (λ (q : List ℕ). take n (drop (9 * n) (M ++ drop (9 * n) q))) e₂ ∙ list-still w z K n (h .room) (list-length ez) keys-long M m-long ∙ ez;
-      }
-        where
-          small′ : (i : ℕ) → i < v → getD (M ++ drop (9 * n) w₂) i 0 < most
-          small′ i b =
-              let e : getD (M ++ drop (9 * n) w₂) i 0 ≡ getD (distinctSorted K) i 0 =
-              sym (getD-take v (M ++ drop (9 * n) w₂) i 0 b) ∙ ap (λ (q : List ℕ). getD q i 0) fronts
-              in
-              omega (arith, e, distinct-below K keys-below i (omega (arith, v-is)))
+      v-fits : v ≤ 9 * n
+      v-fits = omega (arith, v-is, distinct-short K, keys-long)
+
+      long : 9 * n + 1 ≤ length (M ++ drop (9 * n) w₂)
+      long =
+          omega (
+            arith,
+            length-append M (drop (9 * n) w₂),
+            length-drop (9 * n) w₂,
+            m-long,
+            ap length e₂,
+            length-sets (listed-work z) 0 K,
+            listed-length w z K n (h .room) (list-length ez) keys-long,
+            h .room,
+          )
+
+      pub front-long : length (take (9 * n + 1) (M ++ drop (9 * n) w₂)) ≡ 9 * n + 1
+      front-long = length-take-le (9 * n + 1) w₃ long
+
+      front-same : take v (take (9 * n + 1) (M ++ drop (9 * n) w₂)) ≡ take v (M ++ drop (9 * n) w₂)
+      front-same = front-of v (9 * n + 1) w₃ (omega (arith, v-fits)) long
+
+      order : SortedTo v (M ++ drop (9 * n) w₂)
+      order = subst₂ (λ (i : ℕ) (q : List ℕ). SortedTo i (q ++ drop (9 * n) w₂)) (sym v-is) (sym m-is) (numbered-order K (drop (9 * n) w₂))
+
+      -- what the index asks for
+      pub index-asks : (v < length (take (9 * n + 1) (M ++ drop (9 * n) w₂))) × SortedTo v (take (9 * n + 1) (M ++ drop (9 * n) w₂))
+      index-asks = (omega (arith, v-fits, front-long), same-order w₃ (take (9 * n + 1) w₃) v front-same order)
+
+      module _ (Q : List ℕ) (lq : length Q ≡ length (take (9 * n + 1) (M ++ drop (9 * n) w₂))) (ix : Indexes (take (9 * n + 1) (M ++ drop (9 * n) w₂)) Q v) where
+        abbrev w₄ : List ℕ
+        w₄ = Q ++ drop (9 * n + 1) (M ++ drop (9 * n) w₂)
+
+        firsts : take v (Q ++ drop (9 * n + 1) (M ++ drop (9 * n) w₂)) ≡ distinctSorted K
+        firsts =
+            take-append-le v Q (drop (9 * n + 1) w₃) (omega (arith, v-fits, lq, front-long)) ∙ ix .same ∙ front-same ∙ fronts
+
+        pub ready : Ready s nx ny nz l n (Q ++ drop (9 * n + 1) (M ++ drop (9 * n) w₂)) v
+        ready = record {
+          lookup = find-ready (take (9 * n + 1) w₃) Q (drop (9 * n + 1) w₃) v (index-asks .1) v-few ix;
+          keys = firsts ∙ keys-same;
+          small = small′;
+          list = list-still w z K n (h .room) (list-length ez) keys-long M Q w₂ e₂ m-long (lq ∙ front-long) ∙ ez;
+        }
+          where
+            small′ : (i : ℕ) → i < v → getD (Q ++ drop (9 * n + 1) (M ++ drop (9 * n) w₂)) i 0 < most
+            small′ i b =
+                let e : getD w₄ i 0 ≡ getD (distinctSorted K) i 0 =
+                sym (getD-take v w₄ i 0 b) ∙ ap (λ (q : List ℕ). getD q i 0) firsts
+                in
+                omega (arith, e, distinct-below K keys-below i (omega (arith, v-is)))

@@ -1,7 +1,7 @@
 -- What the parts of the code promise for an octree.
 use mathlib.Core.Path.{_≡_}
 use mathlib.Core.List.{List, [], _∷_}
-use Prim.Native.Nat.{ℕ, _*_, _≤_, _<_}
+use Prim.Native.Nat.{ℕ, _+_, _*_, _≤_, _<_}
 use lib.ListN.{length, getD, take, drop}
 use Rattle.lists.specs.Runs.{run}
 use Rattle.octants.specs.Oct.{Axis, ax, ay, az, pos}
@@ -33,19 +33,19 @@ pub record KeysFit (w : List ℕ) (v : ℕ) (triples points : List ℕ) : Type 0
   pub triple-room : 3 * v ≤ length triples
   pub point-room : 3 * v ≤ length points
 
--- a split table whose grid is to be numbered, with so many leaves, and work for 10 entries a leaf
+-- a split table whose grid is to be numbered, with so many leaves, and work for 10 entries a leaf and one more
 pub record Numberable (s : List ℕ) (nx ny nz l n : ℕ) (w : List ℕ) : Type 0 where
   pub taken : Taken s nx ny nz l
   pub octants : length s ≤ 1048576
   pub leaves : n ≡ length (leafList l (pos nx ny nz) (read (pos nx ny nz) l s))
-  pub room : 10 * n ≤ length w
+  pub room : 10 * n < length w
 
--- the work once the vertices are numbered: their keys in front, and the list of leaves behind the room for nine keys a leaf
+-- the work once the vertices are numbered: their keys and the index of these in front, and the list of leaves behind the room for them
 pub record Ready (s : List ℕ) (nx ny nz l n : ℕ) (w : List ℕ) (v : ℕ) : Type 0 where
   pub lookup : Lookup w v
   pub keys : take v w ≡ vertexKeys l (pos nx ny nz) s
   pub small : (i : ℕ) → i < v → getD w i 0 < 549755813888
-  pub list : take n (drop (9 * n) w) ≡ leafList l (pos nx ny nz) (read (pos nx ny nz) l s)
+  pub list : take n (drop (9 * n + 1) w) ≡ leafList l (pos nx ny nz) (read (pos nx ny nz) l s)
 
 -- an octree whose work is lent whole and whose cells have just the room
 pub record Fillable (p : Plan) (s : List ℕ) (n : ℕ) (C w : List ℕ) : Type 0 where

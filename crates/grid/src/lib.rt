@@ -119,8 +119,8 @@ fn store_vertices(keys: &[u64], v: usize, triples: &mut [u32], points: &mut [u32
     }
 }
 
-// Numbers the vertices of an octree in the work: the keys of its leaves' points, sorted, one of each. The list of leaves stays behind
-// the room for nine keys a leaf.
+// Numbers the vertices of an octree in the work: the keys of its leaves' points, sorted, one of each, and behind them their index. The
+// list of leaves stays behind the room for nine keys a leaf and the size of the index.
 fn number_vertices(
     split: &[u8],
     nx: usize,
@@ -133,11 +133,13 @@ fn number_vertices(
     requires { ⌜ Numberable (now split) nx ny nz levels many (now work) ⌝ }
     ensures { λ v. ⌜ Ready (now (split .entry)) nx ny nz levels many (now (work .exit)) v ⌝ }
 {
-    let list = 9 * many;
-    let end = 10 * many;
-    leaves::list_leaves(split, nx, ny, nz, levels, &mut work[list..end]);
+    let keys = 9 * many;
+    let list = keys + 1;
+    leaves::list_leaves(split, nx, ny, nz, levels, &mut work[list..list + many]);
     leaf_cells::leaf_keys(work, list, many);
-    numbering::number(&mut work[..list])
+    let v = numbering::number(&mut work[..keys]);
+    numbering::index(&mut work[..list], v);
+    v
 }
 
 // The cells and vertices of an octree, with work for its cells and room for just these.
@@ -165,7 +167,18 @@ fn octree_fill(
     }
     let most = 3 * v;
     store_vertices(work, v, &mut triples[..most], &mut points[..most], p);
-    leaf_cells::store_cells(split, nx, ny, nz, levels, work, v, 9 * many, many, cells);
+    leaf_cells::store_cells(
+        split,
+        nx,
+        ny,
+        nz,
+        levels,
+        work,
+        v,
+        9 * many + 1,
+        many,
+        cells,
+    );
     lists::zero64(work);
     Gridded::Done(count as u64, v as u64)
 }

@@ -120,6 +120,24 @@ module _ {A : Type 0} where
       leaves-bound l d =
           rw (box-line d (below t f l)) (down-bound (λ r. below t f l (place d r)) (8 ^ l * most) (λ r. below-bound l (place d r)) (size d))
 
+    -- where each leaf gives something, so does an octree with a root
+    module _ (some : (m : ℕ) (x : Pos) → 1 ≤ length (f m x)) where
+      down-some : (g : ℕ → List A) → ((i : ℕ) → 1 ≤ length (g i)) → (n : ℕ) → 0 < n → 1 ≤ length (down n g)
+      down-some g q n h = rw (down-more n g h) (simp length-append (omega (arith, q (n - 1))))
+
+      below-some : (m : ℕ) (x : Pos) → 1 ≤ length (below t f m x)
+      unfolding below
+      below-some zero x = some zero x
+      below-some (suc m) x = go (λ r. below-some m (child x (place two r))) (t (suc m) x)
+        where
+          go : ((r : ℕ) → 1 ≤ length (below t f m (child x (place two r)))) → (b : Bool)
+              → 1 ≤ length (cond b (boxDown two (λ o. below t f m (child x o))) (f (suc m) x))
+          go q true = rw (box-line two (λ o. below t f m (child x o))) (down-some (λ r. below t f m (child x (place two r))) q 8 (omega arith))
+          go q false = some (suc m) x
+
+      pub leaves-some : (l : ℕ) (d : Pos) → 0 < size d → 1 ≤ length (overLeaves l d t f)
+      leaves-some l d h = rw (box-line d (below t f l)) (down-some (λ r. below t f l (place d r)) (λ r. below-some l (place d r)) (size d) h)
+
 -- where each leaf gives k of the one for each of the other, so do all
 module _ {A B : Type 0} (t : Tree) (f : ℕ → Pos → List A) (g : ℕ → Pos → List B) (k : ℕ) (h : (m : ℕ) (x : Pos) → k * length (f m x) ≤ length (g m x)) where
   down-times : (n : ℕ) (p : ℕ → List A) (q : ℕ → List B) → ((i : ℕ) → k * length (p i) ≤ length (q i)) → k * length (down n p) ≤ length (down n q)

@@ -22,7 +22,7 @@ use Rattle.lists.proofs.Parts.{sets-append, sets-whole}
 use Rattle.sides.specs.Told.{Taken}
 use Rattle.leaves.specs.declared.Tally.{Tally}
 use Rattle.leaves.specs.Leaves.{packed, alone, leafList, kids, leavesBelow, cellsBelow, leavesOf, cellsOf, Left, Counted, Walked}
-use Rattle.leaves.proofs.Lines.{box-line, octant-leaf, octant-split, kids-none, kids-more, down-none, down-more, leaves-bound, leaves-times}
+use Rattle.leaves.proofs.Lines.{box-line, octant-leaf, octant-split, kids-none, kids-more, down-none, down-more, leaves-bound, leaves-some, leaves-times}
 
 -- ---- what a walk leaves behind
 
@@ -308,6 +308,14 @@ six-each l d t = leaves-times t alone (leafCells l d t) 6 leaf-six l d
 
     leaf-six : (m : ℕ) (x : Pos) → 6 * length (alone m x) ≤ length (leafCells l d t m x)
     leaf-six m x = simp length-append (omega (arith, face-two m x ax, face-two m x ay, face-two m x az))
+
+-- ---- at least one leaf
+
+pub some-leaf : (s : List ℕ) (nx ny nz l : ℕ) → Taken s nx ny nz l → 1 ≤ length (leafList l (pos nx ny nz) (read (pos nx ny nz) l s))
+some-leaf s nx ny nz l h =
+    let a : 1 * 1 ≤ nx * ny = mul-le-mul (h .dims .x-some) (h .dims .y-some) in
+    let b : 1 * 1 * 1 ≤ nx * ny * nz = mul-le-mul a (h .dims .z-some) in
+    leaves-some (read (pos nx ny nz) l s) alone (λ m x. omega arith) l (pos nx ny nz) b
 
 -- ---- the two walks: over an empty table, and over one of just as many entries
 

@@ -6,3 +6,4 @@ pub mod Halves
 pub mod Front
 pub mod Ranks
 pub mod Packing
+pub mod Indexing

@@ -3,7 +3,7 @@ use Prim.Native.Nat.{_*_}
 use native.Mathlib.Omega.{arith}
 use lib.Seq.{length-take-le}
 use Rattle.leaf_cells.proofs.Keys.{all-placed}
-use Rattle.grid.proofs.Octrees.{standing, ready}
+use Rattle.grid.proofs.Octrees.{standing, front-long, index-asks, ready}
 use borrow.Author.Needs.{needs}
 use Rattle.grid.proofs.number_vertices.Statement.{statement}
 use Rattle.grid.proofs.number_vertices.Tie as tie
@@ -11,13 +11,17 @@ use Rattle.grid.proofs.number_vertices.Reads as reads
 use Rattle.grid.proofs.number_vertices.Lts as lts
 use Rattle.leaf_cells.proofs.leaf_keys.Reads as leaf-keys-reads
 use Rattle.leaves.proofs.list_leaves.Reads as list-leaves-reads
+use Rattle.numbering.proofs.index.Reads as index-reads
 use Rattle.numbering.proofs.number.Reads as number-reads
 
-mul-list : tie.Need-mul-list
-mul-list c = search needs
+mul-keys : tie.Need-mul-keys
+mul-keys c = search needs
 
-mul-end : tie.Need-mul-end
-mul-end c = search needs
+add-list : tie.Need-add-list
+add-list c = search needs
+
+add-list-leaves : tie.Need-add-list-leaves
+add-list-leaves c = search needs
 
 mul-list-leaves : tie.Need-mul-list-leaves
 mul-list-leaves c = search needs
@@ -54,21 +58,37 @@ slice-aggregate-number c =
 number-requires : tie.Need-number-requires
 number-requires c κs = search needs
 
+slice-relend-prefix-index : tie.Need-slice-relend-prefix-index
+slice-relend-prefix-index c = search needs
+
+slice-aggregate-index : tie.Need-slice-aggregate-index
+slice-aggregate-index c =
+    let a = c .before .before .before .before .before .before .before .before .before .before .before .before .before .before .before .args in
+    let h = c .before .before .before .before .before .before .before .before .before .before .before .before .before .before .before .pre in
+    sym (front-long (a .split .now) (a .nx) (a .ny) (a .nz) (a .levels) (a .many) (a .work .now) h _ (c .before .before .before .before .before .before .before .before .before .before .before .list-leaves .ensures) _ _ _ (c .before .before .before .before .before .before .before .leaf-keys .ensures) (c .before .before .before .number .kept .0) (c .before .before .before .number .ensures .1) (c .before .before .before .number .ensures .0))
+
+index-requires : tie.Need-index-requires
+index-requires c κs =
+    let a = c .before .before .before .before .before .before .before .before .before .before .before .before .before .before .before .args in
+    let h = c .before .before .before .before .before .before .before .before .before .before .before .before .before .before .before .pre in
+    index-asks (a .split .now) (a .nx) (a .ny) (a .nz) (a .levels) (a .many) (a .work .now) h _ (c .before .before .before .before .before .before .before .before .before .before .before .list-leaves .ensures) _ _ _ (c .before .before .before .before .before .before .before .leaf-keys .ensures) (c .before .before .before .number .kept .0) (c .before .before .before .number .ensures .1) (c .before .before .before .number .ensures .0)
+
 same-length : tie.Need-same-length
 same-length c = search needs
 
 returns : tie.Need-returns
 returns c =
-    let a = c .before .before .before .before .before .before .before .before .before .before .before .before .before .before .args in
-    let h = c .before .before .before .before .before .before .before .before .before .before .before .before .before .before .pre in
-    ready (a .split .now) (a .nx) (a .ny) (a .nz) (a .levels) (a .many) (a .work .now) h _ (c .before .before .before .before .before .before .before .before .before .before .list-leaves .ensures) _ _ _ (c .before .before .before .before .before .before .leaf-keys .ensures) (c .before .before .number .kept .0) (c .before .before .number .ensures .1) (c .before .before .number .ensures .0)
+    let a = c .before .before .before .before .before .before .before .before .before .before .before .before .before .before .before .before .before .before .args in
+    let h = c .before .before .before .before .before .before .before .before .before .before .before .before .before .before .before .before .before .before .pre in
+    ready (a .split .now) (a .nx) (a .ny) (a .nz) (a .levels) (a .many) (a .work .now) h _ (c .before .before .before .before .before .before .before .before .before .before .before .before .before .before .list-leaves .ensures) _ _ _ (c .before .before .before .before .before .before .before .before .before .before .leaf-keys .ensures) (c .before .before .before .before .before .before .number .kept .0) (c .before .before .before .before .before .before .number .ensures .1) (c .before .before .before .before .before .before .number .ensures .0) _ (c .before .before .index .kept .0) (c .before .before .index .ensures)
 
 pub number-vertices-spec : {M : Type 1} → statement M
 number-vertices-spec =
     tie.close
     (tie.spec
-    mul-list
-    mul-end
+    mul-keys
+    add-list
+    add-list-leaves
     mul-list-leaves
     sub-list-leaves
     part-list-leaves-start
@@ -78,5 +98,8 @@ number-vertices-spec =
     slice-relend-prefix-number
     slice-aggregate-number
     number-requires
+    slice-relend-prefix-index
+    slice-aggregate-index
+    index-requires
     same-length
     returns)

@@ -3,6 +3,7 @@ use Prim.Native.Nat.{ℕ, _*_, _/_}
 use native.Mathlib.Omega.{arith}
 use lib.ListN.{length}
 use lib.Seq.{length-take-le}
+use Rattle.numbering.proofs.Indexing.{short}
 use Rattle.grid.specs.Step.{cellCount}
 use Rattle.grid.proofs.Outcomes.{vertices-room, lent-full, length-triples, length-points}
 use Rattle.grid.proofs.Octrees.{octree-vertex-count, octree-cell-count, octree-table, octree-triples, octree-points}
@@ -47,7 +48,7 @@ returns c =
     let a = c .before .before .before .before .before .before .before .before .before .before .before .before .before .before .before .before .before .before .before .args in
     let h = c .before .before .before .before .before .before .before .before .before .before .before .before .before .before .before .before .before .before .before .pre in
     let k = c .before .before .before .before .before .before .before .before .number-vertices .ensures in
-    let ev = octree-vertex-count (a .p) (a .split .now) (h .some) _ _ (k .lookup .fits) (k .keys) in
+    let ev = octree-vertex-count (a .p) (a .split .now) (h .some) _ _ (short _ _ (k .lookup)) (k .keys) in
     let e4 = h .cells in
     let en : length (a .cells .now) / 4 ≡ cellCount (a .p) (a .split .now) = omega arith in
     stocked-none (a .p) (a .split .now) _ _ _ _ en ev (c .before .before .zero64 .ensures) (c .before .before .before .before .before .before .before .before .number-vertices .kept .1 .1 .1 .1 .1 .1 .0) (sym (c .before .before .before .before .before .lacks-vertices .ensures) ∙ c .before .before .before .before .if1 .taken)
@@ -72,17 +73,20 @@ store-vertices-requires c κs =
     let k = c .before .before .before .before .before .before .before .number-vertices .ensures in
     let lv = sym (c .before .before .before .before .lacks-vertices .ensures) ∙ c .before .before .before .if1 .left in
     let r = vertices-room _ _ _ lv in
-    record { there = k .lookup .fits; small = k .small; triple-room = omega (arith, length-take-le _ (c .before .before .before .before .before .before .before .before .before .before .before .before .before .before .before .before .before .before .args .triples .now) (r .0)); point-room = omega (arith, length-take-le _ (c .before .before .before .before .before .before .before .before .before .before .before .before .before .before .before .before .before .before .args .points .now) (r .1)) }
+    record { there = short _ _ (k .lookup); small = k .small; triple-room = omega (arith, length-take-le _ (c .before .before .before .before .before .before .before .before .before .before .before .before .before .before .before .before .before .before .args .triples .now) (r .0)); point-room = omega (arith, length-take-le _ (c .before .before .before .before .before .before .before .before .before .before .before .before .before .before .before .before .before .before .args .points .now) (r .1)) }
 
 mul-store-cells : tie.Need-mul-store-cells
 mul-store-cells c = omega (arith, c .before .before .before .before .before .before .before .before .before .before .before .before .before .before .before .before .before .before .before .before .before .before .before .before .pre .numberable .room, c .before .before .before .before .before .before .before .before .before .before .before .before .before .before .before .before .before .before .before .before .before .before .before .before .good)
+
+add-store-cells : tie.Need-add-store-cells
+add-store-cells c = omega (arith, c .before .before .before .before .before .before .before .before .before .before .before .before .before .before .before .before .before .before .before .before .before .before .before .before .pre .numberable .room, c .before .before .before .before .before .before .before .before .before .before .before .before .before .before .before .before .before .before .before .before .before .before .before .before .good)
 
 store-cells-requires : tie.Need-store-cells-requires
 store-cells-requires c κs =
     let a = c .before .before .before .before .before .before .before .before .before .before .before .before .before .before .before .before .before .before .before .before .before .before .before .before .before .args in
     let h = c .before .before .before .before .before .before .before .before .before .before .before .before .before .before .before .before .before .before .before .before .before .before .before .before .before .pre in
     let k = c .before .before .before .before .before .before .before .before .before .before .before .before .before .before .number-vertices .ensures in
-    let ev = octree-vertex-count (a .p) (a .split .now) (h .some) _ _ (k .lookup .fits) (k .keys) in
+    let ev = octree-vertex-count (a .p) (a .split .now) (h .some) _ _ (short _ _ (k .lookup)) (k .keys) in
     let m = h .numberable in
     (m .taken, (k .lookup, (record { fits = omega (arith, m .room, c .before .before .before .before .before .before .before .before .before .before .before .before .before .before .number-vertices .kept .1 .1 .1 .1 .1 .1 .0); many = m .leaves; here = k .list }, h .cells ∙ ap (λ (i : ℕ). 4 * i) (octree-cell-count (a .p) (a .split .now) (h .some)))))
 
@@ -106,18 +110,18 @@ returns-2 c =
     let a = c .before .before .before .before .before .before .before .before .before .before .before .before .before .before .before .before .before .before .before .before .before .before .before .before .before .before .before .before .before .before .before .before .args in
     let h = c .before .before .before .before .before .before .before .before .before .before .before .before .before .before .before .before .before .before .before .before .before .before .before .before .before .before .before .before .before .before .before .before .pre in
     let k = c .before .before .before .before .before .before .before .before .before .before .before .before .before .before .before .before .before .before .before .before .before .number-vertices .ensures in
-    let ev = octree-vertex-count (a .p) (a .split .now) (h .some) _ _ (k .lookup .fits) (k .keys) in
+    let ev = octree-vertex-count (a .p) (a .split .now) (h .some) _ _ (short _ _ (k .lookup)) (k .keys) in
     let e4 = h .cells in
     let en : length (a .cells .now) / 4 ≡ cellCount (a .p) (a .split .now) = omega arith in
     let lv = sym (c .before .before .before .before .before .before .before .before .before .before .before .before .before .before .before .before .before .before .lacks-vertices .ensures) ∙ c .before .before .before .before .before .before .before .before .before .before .before .before .before .before .before .before .before .if1 .left in
     let r = vertices-room _ _ _ lv in
-    let et = octree-triples (a .p) (a .split .now) (h .some) _ _ (k .lookup .fits) (k .keys) in
-    let ep = octree-points (a .p) (a .split .now) (h .some) _ _ (k .lookup .fits) (k .keys) in
+    let et = octree-triples (a .p) (a .split .now) (h .some) _ _ (short _ _ (k .lookup)) (k .keys) in
+    let ep = octree-points (a .p) (a .split .now) (h .some) _ _ (short _ _ (k .lookup)) (k .keys) in
     let tl = ap length et ∙ length-triples (a .p) (a .split .now) ∙ ap (λ (i : ℕ). 3 * i) (sym ev) in
     let pl = ap length ep ∙ length-points (a .p) (a .split .now) ∙ ap (λ (i : ℕ). 3 * i) (sym ev) in
     let sv = c .before .before .before .before .before .before .before .before .before .before .before .before .before .store-vertices .ensures in
     stocked-done (a .p) (a .split .now) _ _ _ _ en ev (c .before .before .zero642 .ensures) (c .before .before .before .before .before .before .before .before .before .before .before .before .before .before .before .before .before .before .before .before .before .number-vertices .kept .1 .1 .1 .1 .1 .1 .0) lv (h .cells)
-    (c .before .before .before .before .before .before .store-cells .ensures ∙ octree-table (a .p) (a .split .now) (h .some) _ _ (k .lookup .fits) (k .keys))
+    (c .before .before .before .before .before .before .store-cells .ensures ∙ octree-table (a .p) (a .split .now) (h .some) _ _ (short _ _ (k .lookup)) (k .keys))
     (lent-full _ _ _ tl (r .0) (sv .0) ∙ et)
     (lent-full _ _ _ pl (r .1) (sv .1) ∙ ep)
 
@@ -141,6 +145,7 @@ octree-fill-spec =
     slice-aggregate-store-vertices-2
     store-vertices-requires
     mul-store-cells
+    add-store-cells
     store-cells-requires
     zero64-requires-2
     same-length-2

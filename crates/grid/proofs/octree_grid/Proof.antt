@@ -2,7 +2,7 @@ use mathlib.Core.Path.{_≡_, refl, sym, ap, _∙_}
 use Prim.Native.Nat.{ℕ, _*_}
 use native.Mathlib.Omega.{arith}
 use lib.Seq.{length-take-le}
-use Rattle.leaves.proofs.Walking.{six-each, cells-few}
+use Rattle.leaves.proofs.Walking.{six-each, some-leaf, cells-few}
 use Rattle.octants.specs.Table.{read}
 use Rattle.lattice.specs.Storing.{dimsOf}
 use Rattle.grid.proofs.Outcomes.{cells-room, no-cells}
@@ -67,9 +67,10 @@ octree-fill-requires c κs =
     let lc = sym (c .before .before .before .before .before .lacks-cells .ensures) ∙ c .before .before .before .before .if1 .left in
     let r = cells-room _ _ _ lc in
     let q = six-each (a .p .levels) (dimsOf (a .p)) (read (dimsOf (a .p)) (a .p .levels) (a .split .now)) in
+    let one = some-leaf (a .split .now) (a .p .nx) (a .p .ny) (a .p .nz) (a .p .levels) (h .1) in
     record {
       some = h .0;
-      numberable = record { taken = h .1; octants = h .2; leaves = k .ofLeaves; room = omega (arith, q, k .ofLeaves, k .ofCells, length-take-le _ (a .work .now) (r .1)) };
+      numberable = record { taken = h .1; octants = h .2; leaves = k .ofLeaves; room = omega (arith, q, one, k .ofLeaves, k .ofCells, length-take-le _ (a .work .now) (r .1)) };
       cells = length-take-le _ (a .cells .now) (r .0) ∙ ap (λ (i : ℕ). 4 * i) en;
     }
 
