@@ -228,10 +228,20 @@ pub fn one_piece(points: &[f32], cells: &[u32], work: &mut [u32]) -> Answer {
     }
 }
 
-/// `sf_write_mesh`.
-pub fn write_mesh(points: &[f32], cells: &[u32], file: &mut [u8], work: &mut [u32]) -> Answer {
+type Writer = unsafe extern "C" fn(
+    *const f32,
+    usize,
+    *const u32,
+    usize,
+    *mut u8,
+    usize,
+    *mut u32,
+    usize,
+) -> Answer;
+
+fn write(by: Writer, points: &[f32], cells: &[u32], file: &mut [u8], work: &mut [u32]) -> Answer {
     unsafe {
-        sf_write_mesh(
+        by(
             points.as_ptr(),
             points.len(),
             cells.as_ptr(),
@@ -242,52 +252,56 @@ pub fn write_mesh(points: &[f32], cells: &[u32], file: &mut [u8], work: &mut [u3
             work.len(),
         )
     }
+}
+
+type Reader = unsafe extern "C" fn(
+    *const u8,
+    usize,
+    *mut f32,
+    usize,
+    *mut u32,
+    usize,
+    *mut u32,
+    usize,
+) -> Answer;
+
+fn read(
+    by: Reader,
+    file: &[u8],
+    points: &mut [f32],
+    cells: &mut [u32],
+    work: &mut [u32],
+) -> Answer {
+    unsafe {
+        by(
+            file.as_ptr(),
+            file.len(),
+            points.as_mut_ptr(),
+            points.len(),
+            cells.as_mut_ptr(),
+            cells.len(),
+            work.as_mut_ptr(),
+            work.len(),
+        )
+    }
+}
+
+/// `sf_write_mesh`.
+pub fn write_mesh(points: &[f32], cells: &[u32], file: &mut [u8], work: &mut [u32]) -> Answer {
+    write(sf_write_mesh, points, cells, file, work)
 }
 
 /// `sf_read_mesh`.
 pub fn read_mesh(file: &[u8], points: &mut [f32], cells: &mut [u32], work: &mut [u32]) -> Answer {
-    unsafe {
-        sf_read_mesh(
-            file.as_ptr(),
-            file.len(),
-            points.as_mut_ptr(),
-            points.len(),
-            cells.as_mut_ptr(),
-            cells.len(),
-            work.as_mut_ptr(),
-            work.len(),
-        )
-    }
+    read(sf_read_mesh, file, points, cells, work)
 }
 
 /// `sf_write_vtk`.
 pub fn write_vtk(points: &[f32], cells: &[u32], file: &mut [u8], work: &mut [u32]) -> Answer {
-    unsafe {
-        sf_write_vtk(
-            points.as_ptr(),
-            points.len(),
-            cells.as_ptr(),
-            cells.len(),
-            file.as_mut_ptr(),
-            file.len(),
-            work.as_mut_ptr(),
-            work.len(),
-        )
-    }
+    write(sf_write_vtk, points, cells, file, work)
 }
 
 /// `sf_read_vtk`.
 pub fn read_vtk(file: &[u8], points: &mut [f32], cells: &mut [u32], work: &mut [u32]) -> Answer {
-    unsafe {
-        sf_read_vtk(
-            file.as_ptr(),
-            file.len(),
-            points.as_mut_ptr(),
-            points.len(),
-            cells.as_mut_ptr(),
-            cells.len(),
-            work.as_mut_ptr(),
-            work.len(),
-        )
-    }
+    read(sf_read_vtk, file, points, cells, work)
 }
