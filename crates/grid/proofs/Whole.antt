@@ -24,6 +24,7 @@ use Rattle.plan.specs.declared.Planned.{Planned}
 use Rattle.plan.specs.declared.Planned.the-variants as planned
 use Rattle.sides.specs.Told.{Taken}
 use Rattle.lattice.specs.Lattice.{latticeVertices, LatticeVertex, indexOf, spread}
+use Rattle.lattice.proofs.Formulas.{cells-count, vertices-count}
 use Rattle.lattice.proofs.Named.{named, listed}
 use Rattle.lattice.specs.Storing.{dimsOf, tripleAt, pointAt}
 use Rattle.grid.specs.Grid.{gridVertices, cellTable, tripleTable, pointTable}
@@ -31,7 +32,7 @@ use Rattle.grid.specs.Step.{cellCount, vertexCount, lacksCells, lacksVer
 use Rattle.grid.specs.Whole.{along, threeAt, OctreeVertices, LatticeVertices, Whole}
 use Rattle.grid.specs.declared.Gridded.{Gridded}
 use Rattle.grid.specs.declared.Gridded.the-variants.{Done, Refused, NoCells, NoVertices}
-use Rattle.grid.proofs.Outcomes.{length-cells, length-triples, length-points}
+use Rattle.grid.proofs.Outcomes.{length-cells, length-triples, length-points, lattice-cell-count, lattice-vertex-count}
 use Rattle.grid.proofs.Steps.{levels-are, taken}
 use Rattle.grid.proofs.Theorems.{cells-name, cells-below, vertices-once, vertices-rise, vertices-used}
 
@@ -102,6 +103,7 @@ module _ (p : Plan) (s C T P : List ℕ) (h : 1 ≤ p .levels → Taken s (p .nx
         vertices-once = λ i j ij b e. vertices-once p s h i j ij b (sym (triples-are i (omega arith)) ∙ e ∙ triples-are j b);
         points-stand = points-are;
         octree-vertices = octree;
+        lattice-counts = λ z. (lattice-cell-count p s z ∙ cells-count (dimsOf p), lattice-vertex-count p s z ∙ vertices-count (dimsOf p));
         lattice-vertices = lattice;
       }
 

@@ -4,13 +4,13 @@ use mathlib.Core.Path.{_≡_}
 use mathlib.Core.Logic.{_≢_}
 use mathlib.Core.Bool.{true}
 use mathlib.Core.List.{List, [], _∷_, map}
-use Prim.Native.Nat.{ℕ, _+_, _*_, _≤_, _<_}
+use Prim.Native.Nat.{ℕ, _+_, _*_, _-_, _/_, _≤_, _<_}
 use lib.ListN.{length, getD, take}
 use Rattle.lists.specs.Tables.{allBelow}
 use Rattle.octants.specs.Oct.{Axis, ax, ay, az, Pos, pos}
 use Rattle.cells.specs.Cells.{Cell}
 use Rattle.numbering.specs.Keys.{Before}
-use Rattle.lattice.specs.Lattice.{LatticeVertex, indexOf}
+use Rattle.lattice.specs.Lattice.{evens, odds, size, LatticeVertex, indexOf}
 use Rattle.lattice.specs.Storing.{pointAt, dimsOf}
 use Rattle.plan.specs.declared.Plan.{Plan}
 use Rattle.grid.specs.Grid.{gridCells, gridVertices}
@@ -35,6 +35,10 @@ pub record OctreeVertices (n v : ℕ) (C T : List ℕ) : Type 0 where
   pub rise : (i j : ℕ) → i < j → j < v → Before (threeAt T i) (threeAt T j)
   pub used : (j : ℕ) → j < v → (i : ℕ) × (i < 4 * n) × (getD C i 0 ≡ j)
 
+-- how many octahedra of a lattice are whole: those along x, along y and along z
+abbrev pub octahedra : Pos → ℕ
+octahedra d = (odds d ax - 1) * (d ay / 2) * (d az / 2) + d ax / 2 * (odds d ay - 1) * (d az / 2) + d ax / 2 * (d ay / 2) * (odds d az - 1)
+
 -- a lattice's are the even and the odd triples from 0 to dims, each at its number
 pub record LatticeVertices (d : Pos) (v : ℕ) (T : List ℕ) : Type 0 where
   pub each : (j : ℕ) → j < v → LatticeVertex d (threeAt T j)
@@ -55,4 +59,5 @@ pub record Whole (p : Plan) (s : List ℕ) (n v : ℕ) (C T P : List ℕ) : Type
   pub points-stand : (j : ℕ) → j < v → (a : Axis) → threeAt P j a ≡ pointAt p a (threeAt T j a)
   -- and which vertices these are
   pub octree-vertices : 1 ≤ p .levels → OctreeVertices n v C T
+  pub lattice-counts : p .levels ≡ 0 → (n ≡ 4 * octahedra (dimsOf p)) × (v ≡ size (evens (dimsOf p)) + size (odds (dimsOf p)))
   pub lattice-vertices : p .levels ≡ 0 → LatticeVertices (dimsOf p) v T
