@@ -17,11 +17,13 @@ sporeferry covers a part with tetrahedra.
       -o FILE     the mesh file to write; it is written whole or not at all
 
   sporeferry info FILE.mesh
-      Say what a mesh file holds, or why it does not read.
+      Say what a mesh file, or a VTK file of this tool, holds, or why it does not read.
 
   sporeferry vtk FILE.mesh -o FILE.vtk
+      Write a mesh file as a legacy VTK file, for a viewer.
+
   sporeferry mesh FILE.vtk -o FILE.mesh
-      Write a mesh file as a legacy VTK file for a viewer, and back.
+      Write a VTK file of this tool as a mesh file again.
 
   sporeferry --help
       Print this.

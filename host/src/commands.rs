@@ -30,15 +30,19 @@ pub fn cover(order: &CoverOrder) -> Result<String, String> {
     Ok(report.0)
 }
 
-/// Tells what a mesh file holds.
+/// Tells what a mesh file or a VTK file holds.
 pub fn info(path: &Path) -> Result<String, String> {
     let bytes = fs::read(path).map_err(about(path))?;
-    let mesh = Mesh::from_bytes(&bytes).map_err(about(path))?;
+    let (kind, read): (_, Reader) = match is_vtk(&bytes) {
+        true => ("VTK file", Mesh::from_vtk),
+        false => ("mesh file", Mesh::from_bytes),
+    };
+    let mesh = read(&bytes).map_err(about(path))?;
     let pieces = mesh.components().map_err(about(path))?.count;
 
     let mut report = Report::default();
     report.file(path, &bytes);
-    report.line("reads", "yes");
+    report.line("reads", format!("yes, as a {kind}"));
     report.line("points", grouped(mesh.points.len()));
     report.line("cells", grouped(mesh.cells.len()));
     report.line("pieces", grouped(pieces));
@@ -49,21 +53,40 @@ pub fn info(path: &Path) -> Result<String, String> {
 
 /// Writes a mesh file as a VTK file.
 pub fn to_vtk(files: &Files) -> Result<String, String> {
-    convert(files, Mesh::from_bytes, Mesh::to_vtk)
+    convert(files, Mesh::from_bytes, Mesh::to_vtk, |bytes| match is_vtk(bytes) {
+        true => Some("it is a VTK file already"),
+        false => None,
+    })
 }
 
 /// Writes a VTK file as a mesh file.
 pub fn to_mesh(files: &Files) -> Result<String, String> {
-    convert(files, Mesh::from_vtk, Mesh::to_bytes)
+    convert(files, Mesh::from_vtk, Mesh::to_bytes, |bytes| match is_vtk(bytes) {
+        true => None,
+        false => Some("it is no VTK file"),
+    })
+}
+
+type Reader = fn(&[u8]) -> Result<Mesh, Refusal>;
+type Writer = fn(&Mesh) -> Result<Vec<u8>, Refusal>;
+
+/// Whether a file starts as every VTK file does. A mesh file never does: its first count would be
+/// above every bound.
+fn is_vtk(bytes: &[u8]) -> bool {
+    bytes.starts_with(b"# vtk DataFile")
 }
 
 fn convert(
     files: &Files,
-    read: impl Fn(&[u8]) -> Result<Mesh, Refusal>,
-    write: impl Fn(&Mesh) -> Result<Vec<u8>, Refusal>,
+    read: Reader,
+    write: Writer,
+    wrong_kind: fn(&[u8]) -> Option<&'static str>,
 ) -> Result<String, String> {
     let (input, output) = (files.input.as_path(), files.output.as_path());
     let bytes = read_for(input, output)?;
+    if let Some(sentence) = wrong_kind(&bytes) {
+        return Err(about(input)(sentence));
+    }
     let mesh = read(&bytes).map_err(about(input))?;
     let file = write(&mesh).map_err(about(output))?;
     write_whole(output, &file).map_err(about(output))?;

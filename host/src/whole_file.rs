@@ -4,8 +4,14 @@ use std::fs::{self, File, OpenOptions};
 use std::io::{self, ErrorKind, Write};
 use std::path::{Path, PathBuf};
 
-/// Whether a file could be put there: its folder exists, and nothing but an ordinary file is in its place.
+/// Whether a file can be put there: its folder takes new files, and nothing but an ordinary file is in its place.
 pub fn check_place(path: &Path) -> io::Result<()> {
+    check_name(path)?;
+    let (temporary, _) = create_beside(&place_of(path))?;
+    fs::remove_file(temporary)
+}
+
+fn check_name(path: &Path) -> io::Result<()> {
     let folder = folder_of(path);
     if !fs::metadata(folder)?.is_dir() {
         return Err(io::Error::new(ErrorKind::NotADirectory, "its folder is no folder"));
@@ -23,8 +29,8 @@ pub fn check_place(path: &Path) -> io::Result<()> {
 /// Writes the bytes there, in place of a file of that name. On failure what was there still is, and nothing
 /// else is left.
 pub fn write_whole(path: &Path, bytes: &[u8]) -> io::Result<()> {
-    check_place(path)?;
-    let place = fs::canonicalize(path).unwrap_or_else(|_| path.to_path_buf());
+    check_name(path)?;
+    let place = place_of(path);
     let (temporary, file) = create_beside(&place)?;
     let done = fill(file, bytes).and_then(|()| fs::rename(&temporary, &place));
     if done.is_err() {
@@ -50,6 +56,11 @@ fn create_beside(place: &Path) -> io::Result<(PathBuf, File)> {
             opened => return Ok((temporary, opened?)),
         }
     }
+}
+
+/// Where a file of that name lies: a link is followed.
+fn place_of(path: &Path) -> PathBuf {
+    fs::canonicalize(path).unwrap_or_else(|_| path.to_path_buf())
 }
 
 fn folder_of(path: &Path) -> &Path {

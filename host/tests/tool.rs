@@ -50,7 +50,9 @@ fn a_part_is_covered_and_looked_at() {
 
     let (code, out, error) = run(&folder, "info ball.mesh");
     assert_eq!((code, error.as_str()), (0, ""));
-    for word in ["reads", "points", "cells", "pieces   1", "box      x -1", "volume"] {
+    for word in
+        ["reads    yes, as a mesh file", "points", "cells", "pieces   1", "box      x -1", "volume"]
+    {
         assert!(out.contains(word), "{word} is not in\n{out}");
     }
     let (code, out, _) = run(&folder, "cover ball.stl --cell 4 --crust -o ball.mesh");
@@ -90,6 +92,8 @@ fn a_part_that_cannot_be_covered_leaves_nothing_behind() {
         ("ball.stl --cell 4 -o .", ".: it is there and is no ordinary file"),
         ("ball.stl --cell 4 -o /dev/null", "/dev/null: it is there and is no ordinary file"),
         ("ball.stl --cell 4 -o ./ball.stl", "ball.stl: it is the file to be read"),
+        ("ball.stl --cell 0 -o missing/new.mesh", "missing/new.mesh: "),
+        ("ball.stl --cell 0 -o /proc/new.mesh", "/proc/new.mesh: "),
     ] {
         fails(&folder, &format!("cover {words}"), 1, holds);
     }
@@ -138,11 +142,15 @@ fn a_mesh_goes_to_a_viewer_and_back() {
     let (code, _, error) = run(&folder, "mesh a.vtk -o b.mesh");
     assert_eq!((code, error.as_str()), (0, ""));
     assert_eq!(fs::read(folder.0.join("b.mesh")).unwrap(), file);
+    let (code, out, error) = run(&folder, "info a.vtk");
+    assert_eq!((code, error.as_str()), (0, ""));
+    assert!(out.contains("reads    yes, as a VTK file\n") && out.contains("pieces   2\n"));
 
     for (words, holds) in [
         ("mesh bad.vtk -o b.mesh", "bad.vtk: refusal 14 of read vtk: the file departs"),
-        ("mesh a.mesh -o c.mesh", "refusal 14 of read vtk"),
-        ("vtk a.vtk -o c.vtk", "refusal 11 of read mesh"),
+        ("info bad.vtk", "bad.vtk: refusal 14 of read vtk: the file departs"),
+        ("mesh a.mesh -o c.mesh", "a.mesh: it is no VTK file"),
+        ("vtk a.vtk -o c.vtk", "a.vtk: it is a VTK file already"),
         ("vtk a.mesh -o ./a.mesh", "it is the file to be read"),
         ("vtk missing.mesh -o c.vtk", "missing.mesh: "),
     ] {
@@ -159,6 +167,29 @@ fn words_are_understood_or_not() {
     for words in ["", "smooth a.mesh", "cover a.stl", "info", "cover a.stl --cell four -o a.mesh"] {
         fails(&folder, words, 2, "sporeferry --help tells how");
     }
+}
+
+/// The shell lets the tool write 64 kilobytes to a file and no more: the write fails half way.
+#[cfg(target_os = "linux")]
+#[test]
+fn a_file_that_fails_half_way_leaves_nothing_behind() {
+    let ball = stl::to_bytes(&shapes::sphere(10.0));
+    let files = [("ball.stl", &ball[..]), ("old.mesh", b"kept as it was")];
+    let folder = with(Folder::new("half"), &files);
+    for output in ["new.mesh", "old.mesh"] {
+        let before = folder.names();
+        let tool = env!("CARGO_BIN_EXE_sporeferry");
+        let words = format!("exec {tool} cover ball.stl --cell 2 -o {output}");
+        let limited = format!("trap '' XFSZ; ulimit -f 128; {words}");
+        let mut shell = Command::new("sh");
+        let done = shell.args(["-c", &limited]).current_dir(&folder.0).output().unwrap();
+        let error = String::from_utf8(done.stderr).unwrap();
+        assert_eq!(done.status.code(), Some(1), "{error}");
+        assert!(error.starts_with(&format!("sporeferry: {output}: ")), "{error}");
+        assert_eq!(error.lines().count(), 1, "{error}");
+        assert_eq!(folder.names(), before);
+    }
+    assert_eq!(fs::read(folder.0.join("old.mesh")).unwrap(), b"kept as it was");
 }
 
 #[cfg(target_os = "linux")]
