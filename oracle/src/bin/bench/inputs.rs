@@ -3,6 +3,7 @@
 use oracle::calls::PlanCall;
 use oracle::expected::plan::plan;
 use oracle::library::Bounds;
+use oracle::random::Random;
 use oracle::steps::shell;
 
 #[derive(Copy, Clone, PartialEq, Eq, PartialOrd, Ord)]
@@ -57,6 +58,31 @@ fn input(name: &str, side: f32, levels: u32, radius: f32, crossed: Crossed) -> I
         centre: side / 2.0,
         radius,
     }
+}
+
+/// The most octants that a box can have with L 5, in its plan, and tables of different contents.
+pub fn contents() -> (PlanCall, Vec<(&'static str, Vec<u8>)>) {
+    let call = cube(0.0, 5);
+    let layout = plan(&call.bounds, 1.0, 5).expect("an accepted plan").layout;
+    let mut random = Random::new(1);
+    let mut chance = |n: usize| -> Vec<u8> {
+        let bytes = (0..layout.len()).map(|_| random.once_in(n).into());
+        bytes.collect()
+    };
+    let (halves, seldom) = (chance(2), chance(512));
+    let coarse = |(level, _): (u32, [i32; 3])| level > 1;
+    let dense = layout.octants().map(coarse).zip(&seldom);
+    let tables = vec![
+        ("a spherical shell", shell(&layout, [3.0; 3], 1.9)),
+        ("all crossed", vec![1; layout.len()]),
+        ("none crossed", vec![0; layout.len()]),
+        ("each by chance, one of two", halves),
+        (
+            "all above level 1, there one of 512",
+            dense.map(|(above, byte)| u8::from(above) | byte).collect(),
+        ),
+    ];
+    (call, tables)
 }
 
 pub fn all(reach: Reach) -> Vec<Input> {

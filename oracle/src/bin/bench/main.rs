@@ -14,7 +14,7 @@ usage: bench [--small | --large] [--times N] [--write FILE]
   --small       inputs of up to some hundred thousand cells only
   --large       also tens of millions of cells (some 8 GB of memory)
   --times N     the least of N runs (5)
-  --write FILE  put the table into this page, under its own heading
+  --write FILE  put the tables into this page, under their own heading
 ";
 
 struct Options {
@@ -45,7 +45,9 @@ fn options(mut args: impl Iterator<Item = String>) -> Result<Options, String> {
 }
 
 fn main() -> ExitCode {
-    let options = match options(std::env::args().skip(1)) {
+    let words: Vec<String> = std::env::args().skip(1).collect();
+    let command = [&["oracle/bench".into()], &words[..]].concat().join(" ");
+    let options = match options(words.into_iter()) {
         Ok(options) => options,
         Err(words) => {
             eprintln!("{words}");
@@ -54,10 +56,11 @@ fn main() -> ExitCode {
     };
     let mut table = table::Table::new(options.times);
     steps::plans(&mut table);
+    steps::contents(&mut table);
     for input in inputs::all(options.reach) {
         steps::on_input(&input, &mut table);
     }
-    let section = table.section(&machine::words());
+    let section = table.section(&command, &machine::words());
     println!("{section}");
     if let Some(file) = options.write {
         let page = std::fs::read_to_string(&file).unwrap_or_else(|_| "# Speed\n\n".into());

@@ -1,8 +1,8 @@
-//! Both sides of each step, timed. A step that is not in the library is passed over.
+//! Both sides of each step, timed.
 
 use crate::clock::{least, timed};
-use crate::inputs::Input;
-use crate::table::Table;
+use crate::inputs::{contents as contents_of, Input};
+use crate::table::{FileTimes, Table};
 use lifted::lent::MeshOracle;
 use lifted::math::Vector;
 use lifted::transformation::volume_mesh::cover_octree::doors::{refined_octree, Tree};
@@ -15,7 +15,7 @@ use oracle::calls::{
     Call, ComponentsCall, Format, GridCall, Input as MeshInput, KeepCall, OnePieceCall, PlanCall,
     ReadCall, RefineCall, RepresentativesCall, WriteCall,
 };
-use oracle::expected::plan::{aabb, octree, parameters};
+use oracle::expected::plan::{aabb, octree, parameters, planned};
 use oracle::lent::{Entry, Lent};
 use oracle::random::Random;
 use oracle::steps::boxes;
@@ -34,29 +34,61 @@ fn answered<C: Call<Outcome = oracle::library::Answer>>(call: &mut C) -> f64 {
     time
 }
 
-/// A hundred thousand plans of boxes of every kind that the Rust takes too.
+/// A hundred thousand plans of small boxes, beside the published code and beside the model with its
+/// refusals, and as many that are refused at once.
 pub fn plans(table: &mut Table) {
     let mut random = Random::new(1);
     let calls: Vec<PlanCall> = (0..100_000)
         .map(|_| boxes::small(&mut random, 0).0)
         .collect();
-    let rust = || {
-        timed(|| {
-            for call in &calls {
-                black_box(lattice_over(domain(aabb(&call.bounds), call.c), call.c));
-            }
+    let refused: Vec<PlanCall> = calls
+        .iter()
+        .map(|call| PlanCall {
+            c: 0.0,
+            ..call.clone()
         })
-        .1
+        .collect();
+    let published = |call: &PlanCall| {
+        black_box(lattice_over(domain(aabb(&call.bounds), call.c), call.c));
     };
-    let ours = || {
-        timed(|| {
-            for call in &calls {
-                black_box(call.clone().library());
-            }
-        })
-        .1
+    let model = |call: &PlanCall| {
+        black_box(planned(&call.bounds, call.c, call.levels));
     };
-    table.row("plan", "small boxes, L 0", "100,000 plans", rust, ours);
+    let ours = |call: &PlanCall| {
+        black_box(call.clone().library());
+    };
+    let (count, boxes) = ("100,000 plans", "small boxes, L 0");
+    let timed_ours = || each(&calls, ours);
+    table.row("plan", boxes, count, || each(&calls, published), timed_ours);
+    let name = "small boxes, L 0, refusals judged";
+    table.row("plan", name, count, || each(&calls, model), timed_ours);
+    let name = "small boxes, c 0, refused at once";
+    table.row(
+        "plan",
+        name,
+        count,
+        || each(&refused, model),
+        || each(&refused, ours),
+    );
+}
+
+/// What a function takes for all of some calls.
+fn each(calls: &[PlanCall], once: impl Fn(&PlanCall)) -> f64 {
+    timed(|| calls.iter().for_each(once)).1
+}
+
+/// Refine on tables of different contents.
+pub fn contents(table: &mut Table) {
+    let (plan, tables) = contents_of();
+    for (name, crossing) in tables {
+        let mut call = RefineCall {
+            plan: plan.clone(),
+            crossing: Lent::new(&crossing),
+            split: dirty(crossing.len()),
+        };
+        let split = call.library().first as usize;
+        table.content(name, &thousands(split), || answered(&mut call));
+    }
 }
 
 /// Every step on one input.
@@ -67,9 +99,9 @@ pub fn on_input(input: &Input, table: &mut Table) {
     mesh.representatives(table);
     mesh.keep(table, true);
     mesh.keep(table, false);
-    mesh.components(table);
+    let numbered = mesh.components(table);
     mesh.one_piece(table);
-    mesh.files(table);
+    mesh.files(table, numbered);
 }
 
 fn thousands(n: usize) -> String {
@@ -242,7 +274,8 @@ impl<'a> Meshed<'a> {
         }
     }
 
-    fn components(&self, table: &mut Table) {
+    /// What our numbering of the components takes.
+    fn components(&self, table: &mut Table) -> f64 {
         let (points, cells) = self.counts();
         let mesh = self.volume_mesh();
         let mut call = ComponentsCall {
@@ -251,9 +284,8 @@ impl<'a> Meshed<'a> {
             work: dirty(2 * points),
         };
         let rust = || timed(|| mesh.connected_components()).1;
-        table.row("components", self.name, &self.size, rust, || {
-            answered(&mut call)
-        });
+        let ours = || answered(&mut call);
+        table.row("components", self.name, &self.size, rust, ours)
     }
 
     fn one_piece(&self, table: &mut Table) {
@@ -268,21 +300,22 @@ impl<'a> Meshed<'a> {
         });
     }
 
-    fn files(&self, table: &mut Table) {
-        self.file(Format::Mesh, table);
-        self.file(Format::Vtk, table);
+    fn files(&self, table: &mut Table, components: f64) {
+        for format in [Format::Mesh, Format::Vtk] {
+            self.file(format, table, components);
+        }
     }
 
     /// The least that a writer or a reader in Rust must do: number the components and move the bytes.
-    fn file(&self, format: Format, table: &mut Table) {
+    fn file(&self, format: Format, table: &mut Table, components: f64) {
         let (points, cells) = self.counts();
         let mesh = self.volume_mesh();
         let file = format.encode(self.input.mesh());
         let mut copy = vec![1; file.len()];
         let mut copied = || timed(|| copy.copy_from_slice(black_box(&file))).1;
-        let copying = least(3, &mut copied);
+        let copying = least(5, &mut copied);
         let bytes = thousands(file.len());
-        let size = format!("{}, {bytes} bytes, copied in {copying:.1} ms", self.size);
+        let size = format!("{}, {bytes} bytes", self.size);
         let mut rust = || timed(|| mesh.connected_components()).1 + copied();
         let mut write = WriteCall {
             format,
@@ -290,8 +323,6 @@ impl<'a> Meshed<'a> {
             file: dirty(file.len()),
             work: dirty(2 * points),
         };
-        let (writer, reader) = (format.writer(), format.reader());
-        table.row(writer, self.name, &size, &mut rust, || answered(&mut write));
         let mut read = ReadCall {
             format,
             file: Lent::new(&file),
@@ -299,6 +330,17 @@ impl<'a> Meshed<'a> {
             cells: dirty(4 * cells),
             work: dirty(2 * points),
         };
-        table.row(reader, self.name, &size, &mut rust, || answered(&mut read));
+        let (writer, reader) = (format.writer(), format.reader());
+        let wrote = table.row(writer, self.name, &size, &mut rust, || answered(&mut write));
+        let loaded = table.row(reader, self.name, &size, &mut rust, || answered(&mut read));
+        for (step, ours) in [(writer, wrote), (reader, loaded)] {
+            let times = FileTimes {
+                bytes: &bytes,
+                copy: copying,
+                components,
+                ours,
+            };
+            table.in_copies(step, self.name, &times);
+        }
     }
 }

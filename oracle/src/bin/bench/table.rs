@@ -1,10 +1,12 @@
-//! The table of speeds, and the page it stands on.
+//! The tables of speeds, and the page they stand on.
 
 use crate::clock::least;
 
 pub struct Table {
     times: usize,
     rows: Vec<String>,
+    copies: Vec<String>,
+    contents: Vec<String>,
 }
 
 fn milliseconds(time: f64) -> String {
@@ -15,15 +17,22 @@ fn milliseconds(time: f64) -> String {
     }
 }
 
+fn told(rows: &mut Vec<String>, row: String) {
+    eprintln!("{row}");
+    rows.push(row);
+}
+
 impl Table {
     pub fn new(times: usize) -> Self {
         Self {
             times,
             rows: Vec::new(),
+            copies: Vec::new(),
+            contents: Vec::new(),
         }
     }
 
-    /// Times both sides, turn by turn, so that both meet the same machine.
+    /// Times both sides, turn by turn, so that both meet the same machine; gives our least time.
     pub fn row(
         &mut self,
         step: &str,
@@ -31,7 +40,7 @@ impl Table {
         size: &str,
         mut rust: impl FnMut() -> f64,
         mut ours: impl FnMut() -> f64,
-    ) {
+    ) -> f64 {
         let mut least_rust = f64::INFINITY;
         let least_ours = least(self.times, || {
             least_rust = least_rust.min(rust());
@@ -43,25 +52,56 @@ impl Table {
             milliseconds(least_ours),
             least_rust / least_ours
         );
-        eprintln!("{row}");
-        self.rows.push(row);
+        told(&mut self.rows, row);
+        least_ours
     }
 
-    pub fn section(&self, machine: &str) -> String {
+    /// What a file step takes beyond our numbering of the components, in copies of the file's bytes.
+    pub fn in_copies(&mut self, step: &str, input: &str, file: &FileTimes) {
+        let row = format!(
+            "| {step} | {input} | {} | {} | {} | {} | {:.1} |",
+            file.bytes,
+            milliseconds(file.copy),
+            milliseconds(file.components),
+            milliseconds(file.ours),
+            (file.ours - file.components) / file.copy
+        );
+        told(&mut self.copies, row);
+    }
+
+    /// Ours alone, for what a table may hold.
+    pub fn content(&mut self, name: &str, split: &str, ours: impl FnMut() -> f64) {
+        let row = format!(
+            "| {name} | {split} | {} |",
+            milliseconds(least(self.times, ours))
+        );
+        told(&mut self.contents, row);
+    }
+
+    pub fn section(&self, command: &str, machine: &str) -> String {
         format!(
-            "{HEADING}{HEAD}{HOW}\nMachine: {machine}. Least of {} runs.\n\n{COLUMNS}{}\n",
+            "{HEADING}\nEach step beside the lifted Rust, made by `{command}`. Figures, not a test.\n{HOW}\n\
+             Machine: {machine}. Least of {} runs.\n\n\
+             {COLUMNS}{}\n{COPIES}{}\n{CONTENTS}{}\n",
             self.times,
-            self.rows.join("\n")
+            self.rows.join("\n"),
+            self.copies.join("\n"),
+            self.contents.join("\n")
         )
     }
 }
 
+/// A file step: the file's bytes in words, what copying them takes, what our numbering of the
+/// components takes, and what the step takes.
+pub struct FileTimes<'a> {
+    pub bytes: &'a str,
+    pub copy: f64,
+    pub components: f64,
+    pub ours: f64,
+}
+
 /// The heading of the part of a page that is made here.
 const HEADING: &str = "## Beside the lifted Rust\n";
-
-const HEAD: &str = "
-Each step beside the lifted Rust, made by `oracle/bench --write docs/SPEED.md`. Figures, not a test.
-";
 
 /// A page with its part under our heading, up to the next one, made anew.
 pub fn replaced(page: &str, section: &str) -> String {
@@ -75,11 +115,30 @@ const HOW: &str = "
 - One run, one thread, the same inputs for both sides, turn by turn; release builds; CPU time of the thread.
 - Ours: tables are made and filled before the first call, so their pages are there, and are lent again as the call before left them; nothing is cleared between calls. The steps zero their work themselves, inside the time taken.
 - The Rust: the lifted functions of oracle/lifted (oracle/CHANGES.md), which allocate what they need inside the time taken, as the published code does; their arguments are made before. Its map is the standard one with a hasher that folds products as foldhash does.
+- plan: the first row's Rust is the domain and the lattice alone, as published, which refuse nothing; the second row's is the oracle's model of the whole step, which judges refusals 1 to 4 as ours does. A plan that is refused at once tells what the call through the C boundary takes.
 - refine: the Rust's refinement and `balance`, answers from a table. grid: `background_grid` of the split octree, `uniform_grid` for L 0. representatives: `flood_fill_inside`. keep: `cover_grid` with `compact`. components, one piece: `connected_components`.
-- The Rust has no file. Its column for write and read is `connected_components` and one copy of the file's bytes, the least that a writer or a reader in Rust must do; the size says what the copy alone takes.
+- The Rust has no file. Its column for write and read is `connected_components` and one copy of the file's bytes, the least that a writer or a reader in Rust must do.
 - A shell is a sphere's surface: crossed octants, or cells with vertices on both of its sides; cells within are inside.
 ";
 
 const COLUMNS: &str = "| step | input | size | Rust, ms | ours, ms | times faster |
 |---|---|---|---:|---:|---:|
+";
+
+const COPIES: &str = "
+### Files, in copies of their bytes
+
+What a writer or a reader takes beyond the component numbers, which both work out: its time less that of `sf_components` on the same mesh, in units of one copy of the file.
+
+| step | input | bytes | copy, ms | components, ms | ours, ms | copies |
+|---|---|---:|---:|---:|---:|---:|
+";
+
+const CONTENTS: &str = "
+### Refine, whatever the table holds
+
+Ours alone: box all 0, c 1, L 5, 1,011,096 octants.
+
+| crossing table | split | ms |
+|---|---:|---:|
 ";
