@@ -3,12 +3,12 @@ use mathlib.Core.Path.{_≡_, refl, sym, ap, ap₂, _∙_}
 use mathlib.Core.Logic.{_≢_}
 use mathlib.Core.Bool.{Bool, true, false, cond}
 use mathlib.Core.List.{List, [], _∷_, _++_, append-assoc}
-use Prim.Native.Nat.{ℕ, _+_, _-_, _*_, _/_, _%_, _≤_, _<_}
+use Prim.Native.Nat.{ℕ, suc, _+_, _-_, _*_, _/_, _%_, _≤_, _<_}
 use native.Mathlib.Omega.{arith}
 use borrow.Author.Tests.{lt-ltb, le-ltb, eq-eqb, ne-eqb, eqb-true, not-false}
 use lib.Dec.{eqb, ltb}
 use lib.ListN.{length, getD, take, drop, replicate, length-append, length-replicate, getD-replicate}
-use lib.Seq.{sets, length-take-le}
+use lib.Seq.{sets, length-sets, length-take-le, drop-cons}
 use Rattle.lists.specs.Ladder.{first, proper, unless}
 use Rattle.lists.specs.Tables.{pointsOf, cellsOf, lengthRows, listOf}
 use Rattle.lists.specs.Runs.{Stored}
@@ -16,8 +16,8 @@ use Rattle.lists.proofs.Rows.{clear, unless-none, unless-some}
 use Rattle.lists.proofs.Lent.{as-lent, as-new}
 use Rattle.lists.proofs.Listing.{list-at, length-list}
 use Rattle.lists.proofs.Parts.{sets-append, sets-whole}
-use Rattle.words.specs.Words.{bytesOf}
-use Rattle.words.proofs.Words.{length-bytes}
+use Rattle.words.specs.Words.{bytes4, bytesOf}
+use Rattle.words.proofs.Words.{length-bytes, bytes-append, Writing, writing-start, writing-on, writing-done}
 use Rattle.components.specs.Numbers.{componentNumbers, Fits}
 use Rattle.components.specs.Step.{meshRows}
 use Rattle.components.proofs.Steps.{fitting, asks}
@@ -25,28 +25,96 @@ use Rattle.file_numbers.proofs.Comparing.{length-components}
 use Rattle.decimal.specs.Digits.{digits}
 use Rattle.vtk_layout.specs.Layout.{versionLine, ourTitle, feed, datasetLines, floatLine, cellsWord, space, typesWord, dataWord, scalarLines, written}
 use Rattle.vtk_layout.specs.File.{ledWord, led, typesOf, vtkFile}
-use Rattle.vtk_file.specs.Write.{bytesOfCounts, vtkBytes, writtenOf, WriteDone, Storable, Placed}
+use Rattle.vtk_file.specs.Write.{bytesOfCounts, vtkBytes, ledCell, writtenOf, WriteDone, Storable, Placed}
 use Rattle.vtk_file.specs.declared.Written.{Written}
 use Rattle.vtk_file.specs.declared.Written.the-variants.{Done, Refused, Short}
 
 -- ---- the cells led by fours, and their types
+
+drop-five : (l : List ℕ) (j : ℕ) → j + 5 ≤ length l
+    → drop j l ≡ getD l j 0 ∷ getD l (j + 1) 0 ∷ getD l (j + 2) 0 ∷ getD l (j + 3) 0 ∷ getD l (j + 4) 0 ∷ drop (j + 5) l
+drop-five l j h =
+    let e1 : j + 1 ≡ suc j = omega arith in
+    let e2 : j + 2 ≡ suc (suc j) = omega arith in
+    let e3 : j + 3 ≡ suc (suc (suc j)) = omega arith in
+    let e4 : j + 4 ≡ suc (suc (suc (suc j))) = omega arith in
+    let e5 : j + 5 ≡ suc (suc (suc (suc (suc j)))) = omega arith in
+    rw (
+      e1,
+      e2,
+      e3,
+      e4,
+      e5,
+      drop-cons l j 0 (omega arith),
+      drop-cons l (suc j) 0 (omega arith),
+      drop-cons l (suc (suc j)) 0 (omega arith),
+      drop-cons l (suc (suc (suc j))) 0 (omega arith),
+      drop-cons l (suc (suc (suc (suc j)))) 0 (omega arith),
+    )
 
 module _ (C : List ℕ) where
   pub length-led : length (led C) ≡ 5 * cellsOf C
   unfolding led
   length-led = length-list (ledWord C) (5 * cellsOf C)
 
-  pub led-at : {x : ℕ} (i : ℕ) → i < 5 * cellsOf C → x ≡ ledWord C i → x ≡ getD (led C) i 0
-  unfolding led
-  led-at i h e = e ∙ sym (list-at (ledWord C) (5 * cellsOf C) i h)
+  -- the words of one cell among them
+  four-at : (i : ℕ) → i < cellsOf C → getD (led C) (5 * i) 0 ≡ 4
+  unfolding led ledWord
+  four-at i h =
+      let z : 5 * i % 5 ≡ 0 = omega arith in
+      list-at (ledWord C) (5 * cellsOf C) (5 * i) (omega arith) ∙ rw (eq-eqb (5 * i % 5) 0 z) refl
 
-  pub led-four : (i : ℕ) → i % 5 ≡ 0 → 4 ≡ ledWord C i
-  unfolding ledWord
-  led-four i h = sym (rw (eq-eqb _ _ h) refl)
+  vertex-at : (j k : ℕ) → j < 5 * cellsOf C → j % 5 ≢ 0 → j / 5 * 4 + j % 5 - 1 ≡ k → getD (led C) j 0 ≡ getD C k 0
+  unfolding led ledWord
+  vertex-at j k h d e = list-at (ledWord C) (5 * cellsOf C) j h ∙ rw (ne-eqb (j % 5) 0 d) (ap (λ (m : ℕ). getD C m 0) e)
 
-  pub led-vertex : (i : ℕ) → i % 5 ≢ 0 → getD C (i / 5 * 4 + i % 5 - 1) 0 ≡ ledWord C i
-  unfolding ledWord
-  led-vertex i h = sym (rw (ne-eqb _ _ h) refl)
+  cell-led : (i : ℕ) → i < cellsOf C → drop (5 * i) (led C) ≡ ledCell C i ++ drop (5 * (i + 1)) (led C)
+  unfolding ledCell
+  cell-led i h =
+      let e : 5 * i + 5 ≡ 5 * (i + 1) = omega arith in
+      drop-five (led C) (5 * i) (omega (arith, length-led))
+      ∙ rw (
+        e,
+        four-at i h,
+        vertex-at (5 * i + 1) (4 * i) (omega arith) (λ q. omega arith) (omega arith),
+        vertex-at (5 * i + 2) (4 * i + 1) (omega arith) (λ q. omega arith) (omega arith),
+        vertex-at (5 * i + 3) (4 * i + 2) (omega arith) (λ q. omega arith) (omega arith),
+        vertex-at (5 * i + 4) (4 * i + 3) (omega arith) (λ q. omega arith) (omega arith),
+      )
+      refl
+
+  -- the loop that stores them cell by cell
+  pub cells-on : (o₀ : List ℕ) (at : ℕ) (o : List ℕ) (i : ℕ) {o1 : List ℕ} → Writing true (led C) o₀ at o (5 * i) → i < cellsOf C
+      → o1 ≡ sets o (at + 20 * i) (bytesOf true (ledCell C i)) → Writing true (led C) o₀ at o1 (5 * (i + 1))
+  unfolding ledCell
+  cells-on o₀ at o i {o1} w h e =
+      let rest : List ℕ = bytesOf true (drop (5 * (i + 1)) (led C)) in
+      let a : at + 20 * i ≡ at + 4 * (5 * i) = omega arith in
+      let l : at + 4 * (5 * (i + 1)) ≡ at + 20 * i + length (bytesOf true (ledCell C i)) = omega (arith, length-bytes true (ledCell C i)) in
+      record {
+        less = omega (arith, length-led);
+        long = ap length e ∙ length-sets o (at + 20 * i) (bytesOf true (ledCell C i)) ∙ w .long;
+        left =
+            ap₂ (λ (t : List ℕ) (k : ℕ). sets t k rest) e l
+            ∙ sym (sets-append (bytesOf true (ledCell C i)) rest o (at + 20 * i))
+            ∙ ap (sets o (at + 20 * i)) (sym (bytes-append true (ledCell C i) (drop (5 * (i + 1)) (led C))) ∙ ap (bytesOf true) (sym (cell-led i h)))
+            ∙ ap (λ (k : ℕ). sets o k (bytesOf true (drop (5 * i) (led C)))) a
+            ∙ w .left;
+      }
+
+  -- the five words of a cell
+  pub cell-stored : (i at : ℕ) (o : List ℕ) {o1 o2 o3 o4 o5 : List ℕ} → o1 ≡ sets o at (bytes4 true 4) → o2 ≡ sets o1 (at + 4) (bytes4 true (getD C (4 * i) 0))
+      → o3 ≡ sets o2 (at + 8) (bytes4 true (getD C (4 * i + 1) 0)) → o4 ≡ sets o3 (at + 12) (bytes4 true (getD C (4 * i + 2) 0))
+      → o5 ≡ sets o4 (at + 16) (bytes4 true (getD C (4 * i + 3) 0)) → o5 ≡ sets o at (bytesOf true (ledCell C i))
+  unfolding ledCell
+  cell-stored i at o {o1} {o2} {o3} {o4} {o5} e1 e2 e3 e4 e5 =
+      let src : List ℕ = ledCell C i in
+      let z : at ≡ at + 4 * 0 = omega arith in
+      let w1 = writing-on true src o at o 0 (writing-start true src o at) (omega arith) refl (e1 ∙ ap (λ (k : ℕ). sets o k (bytes4 true 4)) z) in
+      let w2 = writing-on true src o at o1 1 w1 (omega arith) refl e2 in
+      let w3 = writing-on true src o at o2 2 w2 (omega arith) refl e3 in
+      let w4 = writing-on true src o at o3 3 w3 (omega arith) refl e4 in
+      writing-done true src o at o5 5 (writing-on true src o at o4 4 w4 (omega arith) refl e5) (omega arith)
 
 pub type-at : (n i : ℕ) → i < n → _≡_ {A = ℕ} 10 (getD (typesOf n) i 0)
 type-at n i h = sym (getD-replicate n i 10 0 h)

@@ -4,7 +4,7 @@ use mathlib.Core.Bool.{cond, not}
 use mathlib.Core.List.{List, [], _∷_, _++_}
 use Prim.Native.Nat.{ℕ, _+_, _*_, _/_, _%_}
 use lib.Dec.{eqb, ltb}
-use lib.ListN.{length, replicate}
+use lib.ListN.{length, getD, replicate}
 use Rattle.lists.specs.Ladder.{Row, _when_, first, unless}
 use Rattle.lists.specs.Tables.{most, pointsOf, cellsOf, allBelow, front, zeroed, on}
 use Rattle.components.specs.Numbers.{Fits}
@@ -64,6 +64,10 @@ pub record WriteDone (P C o w : List ℕ) (r : Written) (o′ w′ : List ℕ) :
   pub work : w′ ≡ writeWork P C o w
 
 -- ---- what the parts of the code promise
+
+-- the words of cell i: a four, and its four numbers
+unfoldable pub ledCell : List ℕ → ℕ → List ℕ
+ledCell C i = 4 ∷ getD C (4 * i) 0 ∷ getD C (4 * i + 1) 0 ∷ getD C (4 * i + 2) 0 ∷ getD C (4 * i + 3) 0 ∷ []
 
 -- a mesh that is not refused, and tables of exactly the length that it needs
 pub record Storable (P C o w : List ℕ) : Type 0 where

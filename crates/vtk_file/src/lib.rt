@@ -5,8 +5,8 @@ ghost use Prim.Native.Nat.{ℕ, _+_, _*_, _/_, _≤_, _<_};
 ghost use lib.ListN.{length};
 ghost use lib.Seq.{sets};
 ghost use Rattle.words.specs.Words.{bytesOf};
-ghost use Rattle.vtk_layout.specs.File.{ledWord, led, typesOf};
-ghost use Rattle.vtk_file.specs.Write.{bytesOfCounts, Storable, Placed, WriteDone};
+ghost use Rattle.vtk_layout.specs.File.{led, typesOf};
+ghost use Rattle.vtk_file.specs.Write.{bytesOfCounts, ledCell, Storable, Placed, WriteDone};
 
 // The outcome of `write_vtk`: the bytes written; refused, with document 01's number; no room for so many bytes.
 pub enum Written {
@@ -15,15 +15,17 @@ pub enum Written {
     Short(u64),
 }
 
-// The word number i of the cells, each of which is led by a four.
-fn led_word(cells: &[u32], i: usize) -> u32
-    requires { ⌜ i < length (now cells) + length (now cells) / 4 ⌝ }
-    ensures { λ r. ⌜ r ≡ ledWord (now (cells .entry)) i ⌝ }
+// Stores cell i, led by a four.
+fn put_cell(cells: &[u32], i: usize, file: &mut [u8], at: usize)
+    requires { ⌜ (4 * i + 4 ≤ length (now cells)) × (at + 20 ≤ length (now file)) ⌝ }
+    ensures { λ _. ⌜ now (file .exit) ≡ sets (now (file .entry)) at (bytesOf true (ledCell (now (cells .entry)) i)) ⌝ }
 {
-    if i % 5 == 0 {
-        return 4;
-    }
-    cells[i / 5 * 4 + i % 5 - 1]
+    let first = 4 * i;
+    words::put_word(file, at, true, 4);
+    words::put_word(file, at + 4, true, cells[first]);
+    words::put_word(file, at + 8, true, cells[first + 1]);
+    words::put_word(file, at + 12, true, cells[first + 2]);
+    words::put_word(file, at + 16, true, cells[first + 3]);
 }
 
 // Stores the cells, each led by a four.
@@ -31,10 +33,10 @@ fn put_cells(cells: &[u32], file: &mut [u8], at: usize)
     requires { ⌜ at + 20 * (length (now cells) / 4) ≤ length (now file) ⌝ }
     ensures { λ _. ⌜ now (file .exit) ≡ sets (now (file .entry)) at (bytesOf true (led (now (cells .entry)))) ⌝ }
 {
-    let many = 5 * (cells.len() / 4);
+    let many = cells.len() / 4;
     let mut i: usize = 0;
     while i < many {
-        words::put_word(file, at + 4 * i, true, led_word(cells, i));
+        put_cell(cells, i, file, at + 20 * i);
         i += 1;
     }
 }

@@ -1,21 +1,21 @@
 -- The ways out of `read_vtk` and of its parts. Assumes nothing.
 use mathlib.Core.Path.{_≡_, refl, sym, ap, ap₂, subst, _∙_}
 use mathlib.Core.Logic.{_⊎_, inl, inr, _≢_}
-use mathlib.Core.Bool.{Bool, true, false, cond, not}
+use mathlib.Core.Bool.{Bool, true, false, cond, not, _&&_, and-assoc, and-true, true≢false}
 use mathlib.Core.List.{List, [], _∷_, _++_}
-use Prim.Native.Nat.{ℕ, _+_, _*_, _/_, _≤_, _<_}
+use Prim.Native.Nat.{ℕ, suc, _+_, _*_, _/_, _≤_, _<_}
 use native.Mathlib.Omega.{arith}
 use borrow.Author.Tests.{lt-ltb, le-ltb, ne-eqb, ltb-false, not-false}
 use lib.Dec.{ltb}
-use lib.ListN.{length, getD, take, drop, replicate, length-replicate, getD-replicate}
-use lib.Seq.{length-take-le}
+use lib.ListN.{length, getD, set, take, drop, replicate, length-replicate, getD-replicate}
+use lib.Seq.{length-take-le, drop-cons}
 use Rattle.lists.specs.Ladder.{first, proper, under, unless}
 use Rattle.lists.specs.Tables.{most, cellsOf, allBelow, listOf, same, allFrom, on, among}
 use Rattle.lists.proofs.Rows.{clear, unless-none, unless-some, first-under}
-use Rattle.lists.proofs.Lent.{below-at, as-lent, as-new, as-lent-below}
+use Rattle.lists.proofs.Lent.{below-at, below-end, as-lent, as-new, as-lent-below}
 use Rattle.lists.proofs.Listing.{length-list, list-at, same-on, same-off, same-end}
-use Rattle.words.specs.Words.{wordAt, wordsAt, spanOf}
-use Rattle.words.proofs.Words.{length-words}
+use Rattle.words.specs.Words.{wordAt, placeOf, wordsAt, spanOf}
+use Rattle.words.proofs.Words.{length-words, words-at, Reading, reading-on}
 use Rattle.links.specs.Vertices.{Cells}
 use Rattle.components.specs.Numbers.{componentNumbers, Fits}
 use Rattle.file_numbers.specs.Stored.{Told}
@@ -27,27 +27,11 @@ use Rattle.mesh_file.specs.declared.Loaded.the-variants.{Done, Refused, Short}
 use Rattle.vtk_layout.specs.Layout.{Laid}
 use Rattle.vtk_layout.specs.declared.Located.{Located}
 use Rattle.vtk_layout.specs.declared.Located.the-variants as located
-use Rattle.vtk_reader.specs.Read.{stride, marksAt, pointsIn, cellsIn, rightNumbers, bodyRows, loadedBy, pointsBy, cellsBy, workBy, LoadDone}
+use Rattle.vtk_reader.specs.Read.{stride, marksAt, pointsIn, cellsIn, rightNumbers, bodyRows, loadedBy, pointsBy, cellsBy, workBy, LoadDone, cellAt, cellGot, cellRows}
 
--- ---- the loop that compares words with one value
-
-pub led-stride : (led : Bool) (i : ℕ) → led ≡ true → stride led i ≡ 20 * i
-unfolding stride
-led-stride led i e = rw e refl
-
-pub plain-stride : (led : Bool) (i : ℕ) → led ≡ false → stride led i ≡ 4 * i
-unfolding stride
-plain-stride led i e = rw e refl
-
-stride-in : (led : Bool) (i n : ℕ) → i < n → stride led i + 4 ≤ stride led n
-unfolding stride
-stride-in true i n h = omega arith
-stride-in false i n h = omega arith
+-- ---- the loops that compare words with one value
 
 module _ (led : Bool) (b : List ℕ) (at n i value : ℕ) where
-  pub mark-in : at + stride led n ≤ length b → i < n → at + stride led i + 4 ≤ length b
-  mark-in s h = omega (arith, stride-in led i n h)
-
   marks-long : length (marksAt led b at n) ≡ n
   unfolding marksAt
   marks-long = length-list (λ k. wordAt true b (at + stride led k)) n
@@ -70,48 +54,173 @@ module _ (led : Bool) (b : List ℕ) (at n i value : ℕ) where
   pub marks-end : n ≤ i → same (drop i (marksAt led b at n)) (drop i (replicate n value)) ≡ true
   marks-end h = same-end (marksAt led b at n) (replicate n value) i (omega (arith, marks-long)) (omega (arith, length-replicate n value))
 
+-- ---- the loop that looks at the cells
+
+below-append : (bound : ℕ) (xs ys : List ℕ) → allBelow bound (xs ++ ys) ≡ allBelow bound xs && allBelow bound ys
+unfolding allBelow
+below-append bound [] ys = refl
+below-append bound (x ∷ xs) ys = ap (λ (t : Bool). ltb x bound && t) (below-append bound xs ys) ∙ sym (and-assoc (ltb x bound) (allBelow bound xs) (allBelow bound ys))
+
+pub below-none : (b : List ℕ) (at bound : ℕ) (t : Bool) → not t ≡ true → false ≡ t && allBelow bound (cellAt b at)
+below-none b at bound true h = absurd (true≢false (sym h))
+below-none b at bound false h = refl
+
+-- the four tests of a cell
+module _ (b : List ℕ) (at bound : ℕ) (t : Bool) (h : not t ≡ false) where
+  so-far : t ≡ true
+  so-far = not-false t h
+
+  pub below-1 : bound ≤ wordAt true b (at + 4) → false ≡ t && allBelow bound (cellAt b at)
+  unfolding cellAt allBelow
+  below-1 l = sym (rw (so-far, le-ltb _ _ l) refl)
+
+  module _ (l1 : wordAt true b (at + 4) < bound) where
+    pub below-2 : bound ≤ wordAt true b (at + 8) → false ≡ t && allBelow bound (cellAt b at)
+    unfolding cellAt allBelow
+    below-2 l = sym (rw (so-far, lt-ltb _ _ l1, le-ltb _ _ l) refl)
+
+    module _ (l2 : wordAt true b (at + 8) < bound) where
+      pub below-3 : bound ≤ wordAt true b (at + 12) → false ≡ t && allBelow bound (cellAt b at)
+      unfolding cellAt allBelow
+      below-3 l = sym (rw (so-far, lt-ltb _ _ l1, lt-ltb _ _ l2, le-ltb _ _ l) refl)
+
+      pub below-4 : wordAt true b (at + 12) < bound → (x : ℕ) → x ≡ wordAt true b (at + 16) → ltb x bound ≡ t && allBelow bound (cellAt b at)
+      unfolding cellAt allBelow
+      below-4 l3 x e = sym (rw (so-far, lt-ltb _ _ l1, lt-ltb _ _ l2, lt-ltb _ _ l3, e) (and-true (ltb (wordAt true b (at + 16)) bound)))
+
+-- what is still to be looked at
+pub record Looking (b : List ℕ) (at n bound : ℕ) (named : Bool) (i : ℕ) : Type 0 where
+  pub leads : same (marksAt true b at n) (replicate n 4) ≡ same (drop i (marksAt true b at n)) (drop i (replicate n 4))
+  pub names : allBelow bound (cellsIn b n at) ≡ named && allBelow bound (drop (4 * i) (cellsIn b n at))
+
+pub looking-start : (b : List ℕ) (at n bound : ℕ) → Looking b at n bound true 0
+looking-start b at n bound = record { leads = refl; names = refl }
+
+module _ (b : List ℕ) (at n bound i : ℕ) where
+  cell-word : (k : ℕ) (j : ℕ) → 4 * i + k < 4 * n → at + 4 * (4 * i + k + (4 * i + k) / 4 + 1) ≡ j → getD (cellsIn b n at) (4 * i + k) 0 ≡ wordAt true b j
+  unfolding placeOf
+  cell-word k j h e = words-at true true b at (4 * n) (4 * i + k) h ∙ ap (wordAt true b) e
+
+  cell-front : i < n → drop (4 * i) (cellsIn b n at) ≡ cellAt b (at + 20 * i) ++ drop (4 * (i + 1)) (cellsIn b n at)
+  unfolding cellAt
+  cell-front h =
+      let z : 4 * i ≡ 4 * i + 0 = omega arith in
+      let e : suc (4 * i + 3) ≡ 4 * (i + 1) = omega arith in
+      let s0 : suc (4 * i + 0) ≡ 4 * i + 1 = omega arith in
+      let s1 : suc (4 * i + 1) ≡ 4 * i + 2 = omega arith in
+      let s2 : suc (4 * i + 2) ≡ 4 * i + 3 = omega arith in
+      ap (λ (k : ℕ). drop k (cellsIn b n at)) z
+      ∙ next 0 (omega arith)
+      ∙ ap₂ (λ (x : ℕ) (k : ℕ). x ∷ drop k (cellsIn b n at)) (cell-word 0 (at + 20 * i + 4) (omega arith) (omega arith)) s0
+      ∙ ap (λ (l : List ℕ). wordAt true b (at + 20 * i + 4) ∷ l)
+      (next 1 (omega arith)
+      ∙ ap₂ (λ (x : ℕ) (k : ℕ). x ∷ drop k (cellsIn b n at)) (cell-word 1 (at + 20 * i + 8) (omega arith) (omega arith)) s1
+      ∙ ap (λ (l : List ℕ). wordAt true b (at + 20 * i + 8) ∷ l)
+      (next 2 (omega arith)
+      ∙ ap₂ (λ (x : ℕ) (k : ℕ). x ∷ drop k (cellsIn b n at)) (cell-word 2 (at + 20 * i + 12) (omega arith) (omega arith)) s2
+      ∙ ap (λ (l : List ℕ). wordAt true b (at + 20 * i + 12) ∷ l)
+      (next 3 (omega arith) ∙ ap₂ (λ (x : ℕ) (k : ℕ). x ∷ drop k (cellsIn b n at)) (cell-word 3 (at + 20 * i + 16) (omega arith) (omega arith)) e)))
+    where
+      next : (k : ℕ) → 4 * i + k < 4 * n → drop (4 * i + k) (cellsIn b n at) ≡ getD (cellsIn b n at) (4 * i + k) 0 ∷ drop (suc (4 * i + k)) (cellsIn b n at)
+      next k l = drop-cons (cellsIn b n at) (4 * i + k) 0 (omega (arith, length-words true true b at (4 * n)))
+
+  module _ (named : Bool) (w : Looking b at n bound named i) where
+    pub looking-on : (x : ℕ) (t : Bool) → i < n → x ≡ wordAt true b (at + 20 * i) → x ≡ 4 → t ≡ named && allBelow bound (cellAt b (at + 20 * i))
+        → Looking b at n bound t (i + 1)
+    unfolding stride
+    looking-on x t h e f g = record {
+      leads = w .leads ∙ marks-on true b at n i 4 x h e f;
+      names =
+          w .names ∙ ap (λ (l : List ℕ). named && allBelow bound l) (cell-front h)
+          ∙ ap (λ (q : Bool). named && q) (below-append bound (cellAt b (at + 20 * i)) (drop (4 * (i + 1)) (cellsIn b n at)))
+          ∙ sym (and-assoc named (allBelow bound (cellAt b (at + 20 * i))) (allBelow bound (drop (4 * (i + 1)) (cellsIn b n at))))
+          ∙ ap (λ (q : Bool). q && allBelow bound (drop (4 * (i + 1)) (cellsIn b n at))) (sym g);
+    }
+
+    pub looking-off : (x : ℕ) → i < n → x ≡ wordAt true b (at + 20 * i) → x ≢ 4 → 15 ≡ first (cellRows b bound n at)
+    unfolding stride cellRows first
+    looking-off x h e f = sym (rw (w .leads ∙ marks-off true b at n i 4 x h e f) refl)
+
+    module _ (d : n ≤ i) where
+      led-all : same (marksAt true b at n) (replicate n 4) ≡ true
+      led-all = w .leads ∙ marks-end true b at n i 4 d
+
+      named-all : allBelow bound (cellsIn b n at) ≡ named
+      named-all =
+          w .names ∙ ap (λ (q : Bool). named && q) (below-end bound (4 * i) (cellsIn b n at) (omega (arith, length-words true true b at (4 * n)))) ∙ and-true named
+
+      pub looking-all : named ≡ true → 0 ≡ first (cellRows b bound n at)
+      unfolding cellRows first
+      looking-all t = sym (rw (led-all, named-all, t) refl)
+
+      pub looking-some : named ≡ false → 8 ≡ first (cellRows b bound n at)
+      unfolding cellRows first
+      looking-some t = sym (rw (led-all, named-all, t) refl)
+
 -- ---- `judge`
 
-module _ (b : List ℕ) (p n c t : ℕ) where
-  pub row-1 : same (marksAt true b c n) (replicate n 4) ≡ false → 15 ≡ first (bodyRows b p n c t)
-  unfolding bodyRows first
-  row-1 h = rw h refl
+module _ (b : List ℕ) (p n c t : ℕ) {r : ℕ} (q : r ≡ first (cellRows b p n c)) where
+  by-cells : {A : Type 0} → (same (marksAt true b c n) (replicate n 4) ≡ false → A) → (same (marksAt true b c n) (replicate n 4) ≡ true → r ≡ cond (not (allBelow p (cellsIn b n c))) 8 0 → A) → A
+  unfolding cellRows first
+  by-cells {A} off on-way = go (same (marksAt true b c n) (replicate n 4)) refl
+    where
+      go : (s : Bool) → same (marksAt true b c n) (replicate n 4) ≡ s → A
+      go true e = on-way e (q ∙ rw e refl)
+      go false e = off e
 
-  module _ (h1 : same (marksAt true b c n) (replicate n 4) ≡ true) where
+  low : (s : Bool) → _≢_ {A = ℕ} (cond (not s) 8 0) 15
+  low true e = omega arith
+  low false e = omega arith
+
+  pub row-1 : r ≡ 15 → 15 ≡ first (bodyRows b p n c t)
+  unfolding bodyRows first
+  row-1 e = by-cells (λ h. sym (rw h refl)) (λ h f. absurd (low (allBelow p (cellsIn b n c)) (sym f ∙ e)))
+
+  module _ (d : r ≢ 15) where
+    led-here : (same (marksAt true b c n) (replicate n 4) ≡ true) × (r ≡ cond (not (allBelow p (cellsIn b n c))) 8 0)
+    unfolding cellRows first
+    led-here = by-cells (λ h. absurd (d (q ∙ rw h refl))) (λ h f. (h, f))
+
     pub row-2 : same (marksAt false b t n) (replicate n 10) ≡ false → 15 ≡ first (bodyRows b p n c t)
     unfolding bodyRows first
-    row-2 h = rw (h1, h) refl
+    row-2 h = sym (rw (led-here .0, h) refl)
 
     module _ (h2 : same (marksAt false b t n) (replicate n 10) ≡ true) where
       pub row-3 : most < p → 4 ≡ first (bodyRows b p n c t)
       unfolding bodyRows first
-      row-3 h = rw (h1, h2, lt-ltb most p h) refl
+      row-3 h = sym (rw (led-here .0, h2, lt-ltb most p h) refl)
 
       module _ (h3 : p ≤ most) where
         pub row-4 : most < n → 4 ≡ first (bodyRows b p n c t)
         unfolding bodyRows first
-        row-4 h = rw (h1, h2, le-ltb most p h3, lt-ltb most n h) refl
+        row-4 h = sym (rw (led-here .0, h2, le-ltb most p h3, lt-ltb most n h) refl)
 
-        module _ (h4 : n ≤ most) where
-          pub row-5 : allBelow p (cellsIn b n c) ≡ false → 8 ≡ first (bodyRows b p n c t)
-          unfolding bodyRows first
-          row-5 h = rw (h1, h2, le-ltb most p h3, le-ltb most n h4, h) refl
-
-          pub row-6 : allBelow p (cellsIn b n c) ≡ true → 0 ≡ first (bodyRows b p n c t)
-          unfolding bodyRows first
-          row-6 h = rw (h1, h2, le-ltb most p h3, le-ltb most n h4, h) refl
+        pub row-5 : n ≤ most → r ≡ first (bodyRows b p n c t)
+        unfolding bodyRows first
+        row-5 h = led-here .1 ∙ sym (rw (led-here .0, h2, le-ltb most p h3, le-ltb most n h) refl)
 
 pub led-span : (n : ℕ) → spanOf true (4 * n) ≡ 20 * n
 unfolding spanOf
 led-span n = omega arith
 
-pub led-marks : (b : List ℕ) (c n : ℕ) → c + 20 * n ≤ length b → c + stride true n ≤ length b
-unfolding stride
-led-marks b c n h = h
+-- ---- the loop that reads cells
 
-pub plain-marks : (b : List ℕ) (t n : ℕ) → t + 4 * n ≤ length b → t + stride false n ≤ length b
-unfolding stride
-plain-marks b t n h = h
+module _ (b : List ℕ) (at n : ℕ) (y₀ y : List ℕ) (i : ℕ) (w : Reading true true b at y₀ y (4 * i)) (long : length y₀ ≡ 4 * n) (h : i < n) where
+  step : (j k q : ℕ) {l : List ℕ} → Reading true true b at y₀ l j → j < 4 * n → at + 4 * (j + j / 4 + 1) ≡ q → j + 1 ≡ k
+      → Reading true true b at y₀ (set l j (wordAt true b q)) k
+  unfolding placeOf
+  step j k q {l} r m e f =
+      subst (Reading true true b at y₀ (set l j (wordAt true b q))) f
+      (reading-on true true b at y₀ l j r (omega (arith, r .long)) (wordAt true b q) (ap (wordAt true b) (sym e)))
+
+  pub cell-read : {y1 : List ℕ} → y1 ≡ cellGot y (4 * i) b (at + 20 * i) → Reading true true b at y₀ y1 (4 * (i + 1))
+  unfolding cellGot
+  cell-read e =
+      let r1 = step (4 * i) (4 * i + 1) (at + 20 * i + 4) w (omega arith) (omega arith) refl in
+      let r2 = step (4 * i + 1) (4 * i + 2) (at + 20 * i + 8) r1 (omega arith) (omega arith) (omega arith) in
+      let r3 = step (4 * i + 2) (4 * i + 3) (at + 20 * i + 12) r2 (omega arith) (omega arith) (omega arith) in
+      subst (λ (l : List ℕ). Reading true true b at y₀ l (4 * (i + 1))) (sym e)
+      (step (4 * i + 3) (4 * (i + 1)) (at + 20 * i + 16) r3 (omega arith) (omega arith) (omega arith))
 
 -- ---- what is known of a file that is not refused by itself
 
@@ -155,9 +264,6 @@ module _ (b : List ℕ) (p n a c t d : ℕ) (l : Laid b p n a c t d) (g : Good b
   pub points-ask : (k : ℕ) → k ≡ 3 * p → a + spanOf false k ≤ length b
   unfolding spanOf
   points-ask k e = omega (arith, l .points-in)
-
-  pub cells-ask : (k : ℕ) → k ≡ 4 * n → c + spanOf true k ≤ length b
-  cells-ask k e = omega (arith, l .cells-in, led-span n, ap (spanOf true) e)
 
 -- ---- the ways out
 
@@ -232,13 +338,12 @@ module _ (b x y w : List ℕ) where
             }
 
         pub done : {x′ y′ w′ : List ℕ} {r : Bool} → r ≡ true → Told true true b c d n (take (2 * p) w) w′ r
-            → x′ ≡ wordsAt true false b a (length (take (3 * p) x)) → y′ ≡ wordsAt true true b c (length (take (4 * n) y))
+            → x′ ≡ wordsAt true false b a (length (take (3 * p) x)) → y′ ≡ cellsIn b n c
             → LoadDone (located.Found p n a c t d) b x y w (Done p n) (x′ ++ drop (3 * p) x) (y′ ++ drop (4 * n) y) (w′ ++ drop (2 * p) w)
         unfolding loadedBy pointsBy cellsBy workBy
-        done {x′} {y′} {w′} {r} f q ex ey =
+        done {x′} {y′} {w′} {r} f q ex py =
             let o : loadedBy (located.Found p n a c t d) b x y w ≡ Done p n = unless-none _ Refused _ z ∙ rw (h, sym (q .right) ∙ f) refl in
             let px : x′ ≡ pointsIn b p a = ex ∙ ap (wordsAt true false b a) (length-take-le (3 * p) x (room .for-points)) in
-            let py : y′ ≡ cellsIn b n c = ey ∙ ap (wordsAt true true b c) (length-take-le (4 * n) y (room .for-cells)) in
             record {
               answer = sym o;
               points = rw (o, px) (sym (as-new [] _ x));

@@ -5,7 +5,7 @@ use mathlib.Core.Bool.{Bool, true, false, cond, not}
 use mathlib.Core.List.{List, [], _∷_}
 use Prim.Native.Nat.{ℕ, _+_, _*_, _/_}
 use lib.Dec.{eqb, ltb}
-use lib.ListN.{length, replicate}
+use lib.ListN.{length, set, replicate}
 use Rattle.lists.specs.Ladder.{Row, _when_, first, unless}
 use Rattle.lists.specs.Tables.{most, allBelow, listOf, same, front, zeroed, on}
 use Rattle.words.specs.Words.{wordAt, wordsAt}
@@ -95,3 +95,17 @@ pub record LoadDone (l : Located) (b x y w : List ℕ) (r : Loaded) (x′ y′ w
 -- the outcome of `read_vtk`
 abbrev pub vtkLoadedOf : List ℕ → List ℕ → List ℕ → List ℕ → Loaded
 vtkLoadedOf b x y w = loadedBy (locatedOf b) b x y w
+
+-- ---- what the parts of the code promise
+
+-- the numbers of a cell whose leading word is at a place, and a table in which they were stored
+unfoldable pub cellAt : List ℕ → ℕ → List ℕ
+cellAt b at = wordAt true b (at + 4) ∷ wordAt true b (at + 8) ∷ wordAt true b (at + 12) ∷ wordAt true b (at + 16) ∷ []
+
+unfoldable pub cellGot : List ℕ → ℕ → List ℕ → ℕ → List ℕ
+cellGot y i b at =
+    set (set (set (set y i (wordAt true b (at + 4))) (i + 1) (wordAt true b (at + 8))) (i + 2) (wordAt true b (at + 12))) (i + 3) (wordAt true b (at + 16))
+
+-- the rows that look at the cells
+unfoldable pub cellRows : List ℕ → ℕ → ℕ → ℕ → List Row
+cellRows b p n c = 15 when not (same (marksAt true b c n) (replicate n 4)) ∷ 8 when not (allBelow p (cellsIn b n c)) ∷ []

@@ -2,35 +2,23 @@
 use mesh_file::Loaded;
 use vtk_layout::Located;
 ghost use mathlib.Core.Path.{_≡_};
-ghost use mathlib.Core.Bool.{true, false};
+ghost use mathlib.Core.Bool.{true, false, _&&_};
 ghost use Prim.Native.Nat.{ℕ, _+_, _*_, _≤_, _<_};
 ghost use lib.ListN.{length, replicate};
 ghost use Rattle.lists.specs.Ladder.{first};
-ghost use Rattle.lists.specs.Tables.{same};
-ghost use Rattle.words.specs.Words.{wordAt};
+ghost use Rattle.lists.specs.Tables.{allBelow, same};
 ghost use Rattle.vtk_layout.specs.declared.Located.the-variants as located;
 ghost use Rattle.vtk_layout.specs.Layout.{Laid, locatedOf};
-ghost use Rattle.vtk_reader.specs.Read.{stride, marksAt, bodyRows, LoadDone};
+ghost use Rattle.vtk_reader.specs.Read.{marksAt, cellsIn, cellAt, cellGot, cellRows, bodyRows, LoadDone};
 
-// The word that leads cell i, or word i of a block.
-fn mark(file: &[u8], at: usize, led: bool, i: usize) -> u32
-    requires { ⌜ at + stride led i + 4 ≤ length (now file) ⌝ }
-    ensures { λ r. ⌜ r ≡ wordAt true (now (file .entry)) (at + stride led i) ⌝ }
-{
-    if led {
-        return words::word(file, at + 20 * i, true);
-    }
-    words::word(file, at + 4 * i, true)
-}
-
-// Whether the words that lead n cells, or n words of a block, all have this value.
-fn all_are(file: &[u8], at: usize, led: bool, n: usize, value: u32) -> bool
-    requires { ⌜ at + stride led n ≤ length (now file) ⌝ }
-    ensures { λ r. ⌜ r ≡ same (marksAt led (now (file .entry)) at n) (replicate n value) ⌝ }
+// Whether n words from a place on all have this value.
+fn all_are(file: &[u8], at: usize, n: usize, value: u32) -> bool
+    requires { ⌜ at + 4 * n ≤ length (now file) ⌝ }
+    ensures { λ r. ⌜ r ≡ same (marksAt false (now (file .entry)) at n) (replicate n value) ⌝ }
 {
     let mut i: usize = 0;
     while i < n {
-        if mark(file, at, led, i) != value {
+        if words::word(file, at + 4 * i, true) != value {
             return false;
         }
         i += 1;
@@ -38,15 +26,56 @@ fn all_are(file: &[u8], at: usize, led: bool, n: usize, value: u32) -> bool
     true
 }
 
+// Whether the numbers of a cell are below the bound too, where those before are; `at` is the place of the word that leads it.
+fn still_below(file: &[u8], at: usize, bound: usize, earlier: bool) -> bool
+    requires { ⌜ at + 20 ≤ length (now file) ⌝ }
+    ensures { λ r. ⌜ r ≡ earlier && allBelow bound (cellAt (now (file .entry)) at) ⌝ }
+{
+    if !earlier {
+        return false;
+    }
+    if bound <= lists::wide(words::word(file, at + 4, true)) {
+        return false;
+    }
+    if bound <= lists::wide(words::word(file, at + 8, true)) {
+        return false;
+    }
+    if bound <= lists::wide(words::word(file, at + 12, true)) {
+        return false;
+    }
+    lists::wide(words::word(file, at + 16, true)) < bound
+}
+
+// The number that n cells are refused with: 15 where one is not led by a four, 8 where one names a point not there, or 0.
+fn judge_cells(file: &[u8], at: usize, n: usize, p: usize) -> u32
+    requires { ⌜ at + 20 * n ≤ length (now file) ⌝ }
+    ensures { λ r. ⌜ r ≡ first (cellRows (now (file .entry)) p n at) ⌝ }
+{
+    let mut named = true;
+    let mut i: usize = 0;
+    while i < n {
+        if words::word(file, at + 20 * i, true) != 4 {
+            return 15;
+        }
+        named = still_below(file, at + 20 * i, p, named);
+        i += 1;
+    }
+    if named {
+        return 0;
+    }
+    8
+}
+
 // The number that a file is refused with whose layout is found, before any table is looked at: 15, 4, 8, or 0.
 fn judge(file: &[u8], p: usize, n: usize, cells: usize, types: usize) -> u32
     requires { ⌜ (cells + 20 * n ≤ length (now file)) × (types + 4 * n ≤ length (now file)) ⌝ }
     ensures { λ r. ⌜ r ≡ first (bodyRows (now (file .entry)) p n cells types) ⌝ }
 {
-    if !all_are(file, cells, true, n, 4) {
+    let number = judge_cells(file, cells, n, p);
+    if number == 15 {
         return 15;
     }
-    if !all_are(file, types, false, n, 10) {
+    if !all_are(file, types, n, 10) {
         return 15;
     }
     if 536_870_912 < p {
@@ -55,10 +84,30 @@ fn judge(file: &[u8], p: usize, n: usize, cells: usize, types: usize) -> u32
     if 536_870_912 < n {
         return 4;
     }
-    if !words::all_below(file, cells, true, true, 4 * n, p) {
-        return 8;
+    number
+}
+
+// Reads the numbers of a cell; `at` is the place of the word that leads it.
+fn get_cell(file: &[u8], at: usize, cells: &mut [u32], first: usize)
+    requires { ⌜ (at + 20 ≤ length (now file)) × (first + 4 ≤ length (now cells)) ⌝ }
+    ensures { λ _. ⌜ now (cells .exit) ≡ cellGot (now (cells .entry)) first (now (file .entry)) at ⌝ }
+{
+    cells[first] = words::word(file, at + 4, true);
+    cells[first + 1] = words::word(file, at + 8, true);
+    cells[first + 2] = words::word(file, at + 12, true);
+    cells[first + 3] = words::word(file, at + 16, true);
+}
+
+// Reads n cells.
+fn get_cells(file: &[u8], at: usize, n: usize, cells: &mut [u32])
+    requires { ⌜ (at + 20 * n ≤ length (now file)) × (length (now cells) ≡ 4 * n) ⌝ }
+    ensures { λ _. ⌜ now (cells .exit) ≡ cellsIn (now (file .entry)) n at ⌝ }
+{
+    let mut i: usize = 0;
+    while i < n {
+        get_cell(file, at + 20 * i, cells, 4 * i);
+        i += 1;
     }
-    0
 }
 
 // Reads the mesh of a file whose layout is found: p points at `a`, n cells at `c`, their types at `t`, their component numbers at `d`.
@@ -91,7 +140,7 @@ fn load(
     let numbers = 3 * p;
     let vertices = 4 * n;
     words::get_words(file, a, true, false, &mut points[..numbers]);
-    words::get_words(file, c, true, true, &mut cells[..vertices]);
+    get_cells(file, c, n, &mut cells[..vertices]);
     Loaded::Done(p as u64, n as u64)
 }
 

@@ -8,7 +8,7 @@ use borrow.Author.Needs.{needs}
 use lib.Seq.{length-take-le}
 use Rattle.lists.proofs.Tests.{told}
 use Rattle.mesh_file.proofs.Reading.{roomy}
-use Rattle.vtk_reader.proofs.Reading.{good, numbers-ask, points-ask, cells-ask, refused, short, wrong, done}
+use Rattle.vtk_reader.proofs.Reading.{good, numbers-ask, points-ask, refused, short, wrong, done}
 use Rattle.vtk_reader.proofs.load.Statement.{statement}
 use Rattle.vtk_reader.proofs.load.Tie as tie
 
@@ -57,14 +57,14 @@ slice-aggregate-get-words c = sym (length-take-le _ _ (roomy _ _ _ _ _ (told (c 
 get-words-requires : tie.Need-get-words-requires
 get-words-requires c κs = points-ask _ _ _ _ _ _ _ (c .before .before .before .before .before .before .before .before .before .before .before .before .before .before .pre) (good _ _ _ _ _ (sym (c .before .before .before .before .before .before .before .before .before .judge .ensures) ∙ c .before .before .before .before .before .before .before .before .if1 .left)) _ (length-take-le _ _ (roomy _ _ _ _ _ (told (c .before .before .before .before .before .before .before .is-short .ensures) (c .before .before .before .before .before .before .if2 .left)) .for-points))
 
-slice-relend-prefix-get-words-2 : tie.Need-slice-relend-prefix-get-words-2
-slice-relend-prefix-get-words-2 c = roomy _ _ _ _ _ (told (c .before .before .before .before .before .before .before .before .before .before .is-short .ensures) (c .before .before .before .before .before .before .before .before .before .if2 .left)) .for-cells
+slice-relend-prefix-get-cells : tie.Need-slice-relend-prefix-get-cells
+slice-relend-prefix-get-cells c = roomy _ _ _ _ _ (told (c .before .before .before .before .before .before .before .before .before .before .is-short .ensures) (c .before .before .before .before .before .before .before .before .before .if2 .left)) .for-cells
 
-slice-aggregate-get-words-2 : tie.Need-slice-aggregate-get-words-2
-slice-aggregate-get-words-2 c = sym (length-take-le _ _ (roomy _ _ _ _ _ (told (c .before .before .before .before .before .before .before .before .before .before .before .is-short .ensures) (c .before .before .before .before .before .before .before .before .before .before .if2 .left)) .for-cells))
+slice-aggregate-get-cells : tie.Need-slice-aggregate-get-cells
+slice-aggregate-get-cells c = sym (length-take-le _ _ (roomy _ _ _ _ _ (told (c .before .before .before .before .before .before .before .before .before .before .before .is-short .ensures) (c .before .before .before .before .before .before .before .before .before .before .if2 .left)) .for-cells))
 
-get-words-requires-2 : tie.Need-get-words-requires-2
-get-words-requires-2 c κs = cells-ask _ _ _ _ _ _ _ (c .before .before .before .before .before .before .before .before .before .before .before .before .before .before .before .before .before .before .pre) (good _ _ _ _ _ (sym (c .before .before .before .before .before .before .before .before .before .before .before .before .before .judge .ensures) ∙ c .before .before .before .before .before .before .before .before .before .before .before .before .if1 .left)) _ (length-take-le _ _ (roomy _ _ _ _ _ (told (c .before .before .before .before .before .before .before .before .before .before .before .is-short .ensures) (c .before .before .before .before .before .before .before .before .before .before .if2 .left)) .for-cells))
+get-cells-requires : tie.Need-get-cells-requires
+get-cells-requires c κs = (c .before .before .before .before .before .before .before .before .before .before .before .before .before .before .before .before .before .before .pre .cells-in, length-take-le _ _ (roomy _ _ _ _ _ (told (c .before .before .before .before .before .before .before .before .before .before .before .is-short .ensures) (c .before .before .before .before .before .before .before .before .before .before .if2 .left)) .for-cells))
 
 same-length-2 : tie.Need-same-length-2
 same-length-2 c = search needs
@@ -76,7 +76,7 @@ same-length-4 : tie.Need-same-length-4
 same-length-4 c = search needs
 
 returns-4 : tie.Need-returns-4
-returns-4 c = done _ _ _ _ _ _ _ _ _ _ (sym (c .before .before .before .before .before .before .before .before .before .before .before .before .before .before .before .before .judge .ensures) ∙ c .before .before .before .before .before .before .before .before .before .before .before .before .before .before .before .if1 .left) (told (c .before .before .before .before .before .before .before .before .before .before .before .before .before .before .is-short .ensures) (c .before .before .before .before .before .before .before .before .before .before .before .before .before .if2 .left)) (not-false _ (c .before .before .before .before .before .before .before .before .if3 .left)) (c .before .before .before .before .before .before .before .before .before .before .before .numbers-right .ensures) (c .before .before .before .before .before .before .get-words .ensures) (c .before .before .get-words2 .ensures)
+returns-4 c = done _ _ _ _ _ _ _ _ _ _ (sym (c .before .before .before .before .before .before .before .before .before .before .before .before .before .before .before .before .judge .ensures) ∙ c .before .before .before .before .before .before .before .before .before .before .before .before .before .before .before .if1 .left) (told (c .before .before .before .before .before .before .before .before .before .before .before .before .before .before .is-short .ensures) (c .before .before .before .before .before .before .before .before .before .before .before .before .before .if2 .left)) (not-false _ (c .before .before .before .before .before .before .before .before .if3 .left)) (c .before .before .before .before .before .before .before .before .before .before .before .numbers-right .ensures) (c .before .before .before .before .before .before .get-words .ensures) (c .before .before .get-cells .ensures)
 
 pub load-spec : {M : Type 1} → statement M
 load-spec =
@@ -97,9 +97,9 @@ load-spec =
     slice-relend-prefix-get-words
     slice-aggregate-get-words
     get-words-requires
-    slice-relend-prefix-get-words-2
-    slice-aggregate-get-words-2
-    get-words-requires-2
+    slice-relend-prefix-get-cells
+    slice-aggregate-get-cells
+    get-cells-requires
     same-length-2
     same-length-3
     same-length-4
