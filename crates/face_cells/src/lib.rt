@@ -1,6 +1,7 @@
 // Stores the cells of a leaf at its faces, each as four vertex numbers.
 use lists::store4;
 use numbering::find;
+use numbering::near;
 use sides::Beside;
 use sides::Sides;
 ghost use mathlib.Core.Path.{_≡_};
@@ -147,7 +148,7 @@ fn face_cells(
             )
         }
         Beside::Equal(e0, e1, e2, e3) => {
-            let o = find(work, vertices, k + u + v + w);
+            let o = near(work, vertices, c as usize + 1, k + u + v + w);
             fan(
                 work,
                 vertices,
@@ -221,7 +222,8 @@ fn axis_cells(
     )
 }
 
-// The cells of a leaf with these sides: k is the key of its low corner, u, v and w half its width along x, y and z.
+// The cells of a leaf with these sides: k is the key of its low corner, u, v and w half its width along x, y and z. A corner mostly
+// stands next to the one below it along z.
 pub fn six_faces(
     work: &[u64],
     vertices: usize,
@@ -253,10 +255,10 @@ pub fn six_faces(
     let c1 = find(work, vertices, x);
     let c2 = find(work, vertices, k + y);
     let c3 = find(work, vertices, x + y);
-    let c4 = find(work, vertices, k + z);
-    let c5 = find(work, vertices, x + z);
-    let c6 = find(work, vertices, k + y + z);
-    let c7 = find(work, vertices, x + y + z);
+    let c4 = near(work, vertices, c0 as usize + 1, k + z);
+    let c5 = near(work, vertices, c1 as usize + 1, x + z);
+    let c6 = near(work, vertices, c2 as usize + 1, k + y + z);
+    let c7 = near(work, vertices, c3 as usize + 1, x + y + z);
     let n = axis_cells(
         work,
         vertices,

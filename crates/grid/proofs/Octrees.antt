@@ -13,10 +13,10 @@ use Rattle.octants.specs.Table.{off, size, depth, read}
 use Rattle.cells.specs.Cells.{Cell, cells, flat}
 use Rattle.plan.specs.declared.Plan.{Plan}
 use Rattle.numbering.specs.Keys.{keyOf, tripleOf}
-use Rattle.numbering.specs.Distinct.{distinctSorted, rank, numbered, Indexes}
+use Rattle.numbering.specs.Distinct.{distinctSorted, rank, numbered, Rising, Indexes}
 use Rattle.numbering.proofs.Members.{same-distinct}
-use Rattle.numbering.proofs.Ranks.{numbered-front, numbered-order}
-use Rattle.numbering.proofs.Indexing.{same-order, find-ready}
+use Rattle.numbering.proofs.Ranks.{numbered-front, numbered-rises}
+use Rattle.numbering.proofs.Indexing.{same-rises, rising-sorted, find-ready}
 use Rattle.lattice.specs.Lattice.{spread}
 use Rattle.lattice.specs.Storing.{dimsOf, tripleAt, pointAt}
 use Rattle.grid.specs.Grid.{gridCells, gridVertices, vertexKeys, numberAt, cellTable, tripleTable, pointTable}
@@ -288,12 +288,14 @@ module _ (s : List ℕ) (nx ny nz l n : ℕ) (w : List ℕ) (h : Numberable s nx
       front-same : take v (take (9 * n + 1) (M ++ drop (9 * n) w₂)) ≡ take v (M ++ drop (9 * n) w₂)
       front-same = front-of v (9 * n + 1) w₃ (omega (arith, v-fits)) long
 
-      order : SortedTo v (M ++ drop (9 * n) w₂)
-      order = subst₂ (λ (i : ℕ) (q : List ℕ). SortedTo i (q ++ drop (9 * n) w₂)) (sym v-is) (sym m-is) (numbered-order K (drop (9 * n) w₂))
+      rises : Rising v (take (9 * n + 1) (M ++ drop (9 * n) w₂))
+      rises =
+          same-rises w₃ (take (9 * n + 1) w₃) v front-same
+          (subst₂ (λ (i : ℕ) (q : List ℕ). Rising i (q ++ drop (9 * n) w₂)) (sym v-is) (sym m-is) (numbered-rises K (drop (9 * n) w₂)))
 
       -- what the index asks for
       pub index-asks : (v < length (take (9 * n + 1) (M ++ drop (9 * n) w₂))) × SortedTo v (take (9 * n + 1) (M ++ drop (9 * n) w₂))
-      index-asks = (omega (arith, v-fits, front-long), same-order w₃ (take (9 * n + 1) w₃) v front-same order)
+      index-asks = (omega (arith, v-fits, front-long), rising-sorted (take (9 * n + 1) w₃) v rises)
 
       module _ (Q : List ℕ) (lq : length Q ≡ length (take (9 * n + 1) (M ++ drop (9 * n) w₂))) (ix : Indexes (take (9 * n + 1) (M ++ drop (9 * n) w₂)) Q v) where
         abbrev w₄ : List ℕ
@@ -305,7 +307,7 @@ module _ (s : List ℕ) (nx ny nz l n : ℕ) (w : List ℕ) (h : Numberable s nx
 
         pub ready : Ready s nx ny nz l n (Q ++ drop (9 * n + 1) (M ++ drop (9 * n) w₂)) v
         ready = record {
-          lookup = find-ready (take (9 * n + 1) w₃) Q (drop (9 * n + 1) w₃) v (index-asks .1) v-few ix;
+          lookup = find-ready (take (9 * n + 1) w₃) Q (drop (9 * n + 1) w₃) v rises v-few ix;
           keys = firsts ∙ keys-same;
           small = small′;
           list = list-still w z K n (h .room) (list-length ez) keys-long M Q w₂ e₂ m-long (lq ∙ front-long) ∙ ez;

@@ -1,7 +1,7 @@
-use borrow.Author.Needs.{needs}
 use native.Mathlib.Omega.{arith}
 use Rattle.lists.proofs.Running.{stored-as, stored-none}
 use Rattle.face_cells.proofs.Laws.{room-to, face-split, face-equal, face-given, face-coarser, face-border, turned-room, turns-few}
+use borrow.Author.Needs.{needs}
 use Rattle.face_cells.proofs.face_cells.Statement.{statement}
 use Rattle.face_cells.proofs.face_cells.Tie as tie
 use Rattle.face_cells.proofs.face_cells.Reads as reads
@@ -10,6 +10,7 @@ use Rattle.face_cells.proofs.fan.Reads as fan-reads
 use Rattle.face_cells.proofs.halves.Reads as halves-reads
 use Rattle.face_cells.proofs.turned.Reads as turned-reads
 use Rattle.numbering.proofs.find.Reads as find-reads
+use Rattle.numbering.proofs.near.Reads as near-reads
 
 enum-told : tie.Need-enum-told
 enum-told c = search needs
@@ -29,20 +30,23 @@ fan-requires c κs = (c .before .before .before .before .before .before .pre .0,
 enum-known-side : tie.Need-enum-known-side
 enum-known-side c = search needs
 
-add-find-3 : tie.Need-add-find-3
-add-find-3 c = search needs
+add-near : tie.Need-add-near
+add-near c = search needs
 
-add-find-4 : tie.Need-add-find-4
-add-find-4 c = search needs
+add-near-2 : tie.Need-add-near-2
+add-near-2 c = search needs
 
-add-find-5 : tie.Need-add-find-5
-add-find-5 c = search needs
+add-near-3 : tie.Need-add-near-3
+add-near-3 c = search needs
 
-find-requires-2 : tie.Need-find-requires-2
-find-requires-2 c κs = search needs
+add-near-4 : tie.Need-add-near-4
+add-near-4 c = search needs
+
+near-requires : tie.Need-near-requires
+near-requires c κs = search needs
 
 fan-requires-2 : tie.Need-fan-requires-2
-fan-requires-2 c κs = (c .before .before .before .before .before .before .before .pre .0, (omega (arith, c .before .before .before .before .before .before .before .pre .1 .0), room-to (face-equal _ _ _ _ _ _ _ _ _ _ _ _ (c .before .before .before .side .given .1) (c .before .find2 .ensures)) (c .before .before .before .before .before .before .before .pre .1 .1 .1)))
+fan-requires-2 c κs = (c .before .before .before .before .before .before .before .pre .0, (omega (arith, c .before .before .before .before .before .before .before .pre .1 .0), room-to (face-equal _ _ _ _ _ _ _ _ _ _ _ _ (c .before .before .before .side .given .1) (c .before .near .ensures)) (c .before .before .before .before .before .before .before .pre .1 .1 .1)))
 
 enum-told-2 : tie.Need-enum-told-2
 enum-told-2 c = search needs
@@ -69,7 +73,7 @@ same-length-2 : tie.Need-same-length-2
 same-length-2 c = search needs
 
 returns-2 : tie.Need-returns-2
-returns-2 c = stored-as (face-equal _ _ _ _ _ _ _ _ _ _ _ _ (c .before .before .before .before .before .before .side .given .1) (c .before .before .before .before .find2 .ensures)) (c .before .before .fan2 .ensures)
+returns-2 c = stored-as (face-equal _ _ _ _ _ _ _ _ _ _ _ _ (c .before .before .before .before .before .before .side .given .1) (c .before .before .before .before .near .ensures)) (c .before .before .fan2 .ensures)
 
 returns-3 : tie.Need-returns-3
 returns-3 c = stored-none _ _ _ (face-given _ _ _ _ _ _ _ _ _ _ _ (c .enum-told2 .given .1))
@@ -96,10 +100,11 @@ face-cells-spec =
     find-requires
     fan-requires
     enum-known-side
-    add-find-3
-    add-find-4
-    add-find-5
-    find-requires-2
+    add-near
+    add-near-2
+    add-near-3
+    add-near-4
+    near-requires
     fan-requires-2
     enum-told-2
     enum-known-side-2
