@@ -1,58 +1,60 @@
 // Plan, refine and grid.
-use crate::show;
+use crate::digest;
 use crate::tape;
+use crate::tape::Played;
 use plan::Bounds;
-
-fn float(tape: &[u8], at: usize) -> f32 {
-    float32::to_f32(tape::word(tape, at))
-}
+use sporeferry::PlanAnswer;
 
 // The box at a place of the tape: six words.
 fn bounds(tape: &[u8], at: usize) -> Bounds {
     Bounds {
-        x0: float(tape, at),
-        y0: float(tape, tape::on(at, 1)),
-        z0: float(tape, tape::on(at, 2)),
-        x1: float(tape, tape::on(at, 3)),
-        y1: float(tape, tape::on(at, 4)),
-        z1: float(tape, tape::on(at, 5)),
+        x0: tape::float(tape, at),
+        y0: tape::float(tape, tape::on(at, 1)),
+        z0: tape::float(tape, tape::on(at, 2)),
+        x1: tape::float(tape, tape::on(at, 3)),
+        y1: tape::float(tape, tape::on(at, 4)),
+        z1: tape::float(tape, tape::on(at, 5)),
     }
 }
 
-pub fn plan(tape: &[u8], at: usize) -> usize {
-    let c = float(tape, tape::on(at, 6));
-    let levels = tape::word(tape, tape::on(at, 7));
-    let a = sporeferry::sf_plan(bounds(tape, at), c, levels);
-    show::word(a.number);
-    show::pattern(a.ox);
-    show::pattern(a.oy);
-    show::pattern(a.oz);
-    show::pattern(a.half);
-    show::word(a.nx);
-    show::word(a.ny);
-    show::word(a.nz);
-    show::word(a.octants);
-    show::end();
-    tape::on(at, 8)
+fn planned(a: PlanAnswer) -> u64 {
+    let x = digest::pattern(digest::word(0, a.number), a.ox);
+    let z = digest::pattern(digest::pattern(x, a.oy), a.oz);
+    let nx = digest::word(digest::pattern(z, a.half), a.nx);
+    let nz = digest::word(digest::word(nx, a.ny), a.nz);
+    digest::word(nz, a.octants)
 }
 
-fn refine_of(tape: &[u8], at: usize, crossing: &mut [u8], split: &mut [u8]) -> usize {
-    let c = float(tape, tape::on(at, 6));
+// Box, cell size, levels.
+pub fn plan(tape: &[u8], at: usize) -> Played {
+    let c = tape::float(tape, tape::on(at, 6));
+    let levels = tape::word(tape, tape::on(at, 7));
+    let d = planned(sporeferry::sf_plan(bounds(tape, at), c, levels));
+    Played {
+        after: tape::on(at, 8),
+        digest: d,
+    }
+}
+
+fn refine_of(tape: &[u8], at: usize, crossing: &mut [u8], split: &mut [u8]) -> Played {
+    let c = tape::float(tape, tape::on(at, 6));
     let levels = tape::word(tape, tape::on(at, 7));
     let after = tape::fill_bytes(tape, tape::on(at, 8), crossing);
-    show::answer(sporeferry::sf_refine(bounds(tape, at), c, levels, crossing, split));
-    show::bytes(split);
-    after
+    let d = digest::answer(sporeferry::sf_refine(bounds(tape, at), c, levels, crossing, split));
+    Played {
+        after,
+        digest: digest::bytes(d, split),
+    }
 }
 
-fn refine_in(tape: &[u8], at: usize, crossing: &mut [u8], split: &mut [u8]) -> usize {
+fn refine_in(tape: &[u8], at: usize, crossing: &mut [u8], split: &mut [u8]) -> Played {
     let n = tape::length(tape, at, crossing.len());
     let r = tape::length(tape, tape::on(at, 1), split.len());
     refine_of(tape, tape::on(at, 2), &mut crossing[..n], &mut split[..r])
 }
 
 // Lengths of crossing and split; box, cell size, levels; crossing.
-pub fn refine(tape: &[u8], at: usize) -> usize {
+pub fn refine(tape: &[u8], at: usize) -> Played {
     let mut crossing = tape::filled_bytes();
     let mut split = tape::filled_bytes();
     refine_in(tape, at, &mut crossing, &mut split)
@@ -66,11 +68,11 @@ fn grid_of(
     triples: &mut [u32],
     points: &mut [u32],
     work: &mut [u64],
-) -> usize {
-    let c = float(tape, tape::on(at, 6));
+) -> Played {
+    let c = tape::float(tape, tape::on(at, 6));
     let levels = tape::word(tape, tape::on(at, 7));
     let after = tape::fill_bytes(tape, tape::on(at, 8), split);
-    show::answer(sporeferry::sf_grid(
+    let a = sporeferry::sf_grid(
         bounds(tape, at),
         c,
         levels,
@@ -79,12 +81,12 @@ fn grid_of(
         triples,
         points,
         work,
-    ));
-    show::table(cells);
-    show::table(triples);
-    show::table(points);
-    show::zeros(work);
-    after
+    );
+    let d = digest::table(digest::table(digest::answer(a), cells), triples);
+    Played {
+        after,
+        digest: digest::long_table(digest::table(d, points), work),
+    }
 }
 
 fn grid_in(
@@ -95,7 +97,7 @@ fn grid_in(
     triples: &mut [u32],
     points: &mut [u32],
     work: &mut [u64],
-) -> usize {
+) -> Played {
     let s = tape::length(tape, at, split.len());
     let n = tape::length(tape, tape::on(at, 1), cells.len());
     let t = tape::length(tape, tape::on(at, 2), triples.len());
@@ -113,7 +115,7 @@ fn grid_in(
 }
 
 // Lengths of split, cells, triples, points and work; box, cell size, levels; split.
-pub fn grid(tape: &[u8], at: usize) -> usize {
+pub fn grid(tape: &[u8], at: usize) -> Played {
     let mut split = tape::filled_bytes();
     let mut cells = tape::filled();
     let mut triples = tape::filled();

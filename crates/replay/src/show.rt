@@ -1,89 +1,47 @@
-// Answers and tables as lines of text.
+// Counts as lines of text.
 use libc::STDOUT_FILENO;
-use sporeferry::Answer;
 
-pub fn number(n: u64) {
-    io::print_decimal(STDOUT_FILENO, n);
-    io::write_all(STDOUT_FILENO, b" ");
+fn text(s: &[u8]) {
+    io::write_all(STDOUT_FILENO, s);
 }
 
-pub fn word(x: u32) {
-    number(x as u64);
+fn number(n: usize) {
+    io::print_decimal(STDOUT_FILENO, n as u64);
 }
 
-pub fn pattern(x: f32) {
-    word(float32::from_f32(x));
-}
-
-pub fn end() {
-    io::write_all(STDOUT_FILENO, b"\n");
-}
-
-pub fn answer(a: Answer) {
-    word(a.number);
-    number(a.first);
-    number(a.second);
-    number(a.third);
-    end();
-}
-
-fn uniform(entries: &[u32]) -> bool {
-    let mut i: usize = 1;
-    while i < entries.len() {
-        if entries[i] != entries[0] {
-            return false;
-        }
-        i += 1;
+fn step_name(step: u32) {
+    match step {
+        0 => text(b"plan"),
+        1 => text(b"refine"),
+        2 => text(b"grid"),
+        3 => text(b"representatives"),
+        4 => text(b"keep_cover"),
+        5 => text(b"keep_crust"),
+        6 => text(b"components"),
+        7 => text(b"one_piece"),
+        8 => text(b"write_mesh"),
+        9 => text(b"read_mesh"),
+        10 => text(b"write_vtk"),
+        _ => text(b"read_vtk"),
     }
-    true
 }
 
-// The entries; where all are the same, how many there are and the first.
-pub fn table(entries: &[u32]) {
-    let n = entries.len();
-    if n > 1 {
-        if uniform(entries) {
-            io::write_all(STDOUT_FILENO, b"all ");
-            number(n as u64);
-            word(entries[0]);
-            return end();
-        }
-    }
-    let mut i: usize = 0;
-    while i < entries.len() {
-        word(entries[i]);
-        i += 1;
-    }
-    end();
+fn counts(calls: usize, differences: usize) {
+    number(calls);
+    text(b" calls, ");
+    number(differences);
+    text(b" differences\n");
 }
 
-fn byte(x: u8) {
-    number(x as u64);
+pub fn section(step: u32, answered: u32, calls: usize, differences: usize) {
+    step_name(step);
+    text(b" ");
+    number(lists::wide(answered));
+    text(b": ");
+    counts(calls, differences);
 }
 
-pub fn bytes(entries: &[u8]) {
-    let mut i: usize = 0;
-    while i < entries.len() {
-        byte(entries[i]);
-        i += 1;
-    }
-    end();
-}
-
-fn first_not_zero(entries: &[u64]) -> usize {
-    let mut i: usize = 0;
-    while i < entries.len() {
-        if entries[i] != 0 {
-            return i;
-        }
-        i += 1;
-    }
-    i
-}
-
-// How many entries from the first on are zero, of how many.
-pub fn zeros(entries: &[u64]) {
-    number(first_not_zero(entries) as u64);
-    number(entries.len() as u64);
-    end();
+pub fn all(calls: usize, differences: usize) {
+    text(b"all: ");
+    counts(calls, differences);
 }

@@ -1,6 +1,12 @@
 // The tape: words of four bytes, the low byte first. Past its end every word is 0.
 ghost use Prim.Native.Nat.{_≤_};
 
+// A call replayed: where the tape goes on, and the digest of what the step answered and left.
+pub struct Played {
+    pub after: usize,
+    pub digest: u64,
+}
+
 // A table of the greatest length, filled with what lent tables hold before a call.
 pub fn filled() -> [u32; 16_384] {
     [0xA5A5_A5A5u32; 16_384]
@@ -22,6 +28,11 @@ pub fn word(tape: &[u8], at: usize) -> u32 {
         return words::word(tape, at * 4, false);
     }
     0
+}
+
+// The float at a place, from its bits.
+pub fn float(tape: &[u8], at: usize) -> f32 {
+    float32::to_f32(word(tape, at))
 }
 
 // The place n words further on, within the longest tape.
@@ -61,12 +72,25 @@ pub fn fill_mesh(tape: &[u8], at: usize, points: &mut [u32], cells: &mut [u32]) 
     fill(tape, second, cells)
 }
 
-// Fills a table of bytes, each the low byte of a word.
+// One of the bytes that stand four to a word from a place on.
+fn byte(tape: &[u8], at: usize, i: usize) -> u8 {
+    if at < 1_000_000 {
+        if i < 1_000_000 {
+            let b = at * 4 + i;
+            if b < tape.len() {
+                return tape[b];
+            }
+        }
+    }
+    0
+}
+
+// Fills a table of bytes; behind them stands at least one byte of none.
 pub fn fill_bytes(tape: &[u8], at: usize, table: &mut [u8]) -> usize {
     let mut i: usize = 0;
     while i < table.len() {
-        table[i] = (word(tape, on(at, i)) % 256) as u8;
+        table[i] = byte(tape, at, i);
         i += 1;
     }
-    on(at, i)
+    on(at, i / 4 + 1)
 }

@@ -1,7 +1,7 @@
 //! Grid: graded and ungraded split tables, lattices, wrong lengths, short room.
 
 use super::rooms::{lengths, resized};
-use super::{boxes, crossings, Sizes};
+use super::{boxes, crossings, worked, Sizes};
 use crate::calls::{compare, GridCall, PlanCall};
 use crate::expected::grid::{found, Grid};
 use crate::expected::refine::split_table;
@@ -189,15 +189,8 @@ fn at_bounds(random: &mut Random, sizes: &Sizes, report: &mut Report) {
 /// The worked refinement of nine octants, whole, and with each of the nine cleared in turn: seven
 /// touch the finest leaves, one of them by a corner alone.
 fn one_missing(random: &mut Random, report: &mut Report) {
-    let plan = cuboid([0.0; 3], 2);
-    let layout = Layout {
-        levels: 2,
-        dims: [6; 3],
-    };
-    let mut crossing = vec![0; layout.len()];
-    crossing[layout.place(2, [2, 2, 2])] = 1;
-    crossing[layout.place(1, [4, 4, 4])] = 1;
-    let split = split_table(&plan.bounds, plan.c, 2, &crossing);
+    let (plan, crossing) = worked::nine_octants();
+    let split = split_table(&plan.bounds, plan.c, plan.levels, &crossing);
     Asked::new(&plan, split.clone()).each_short(random, report);
     for at in (0..split.len()).filter(|at| split[*at] == 1) {
         let mut missing = split.clone();

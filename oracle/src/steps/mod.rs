@@ -42,12 +42,13 @@ impl Sizes {
         largest: false,
     };
 
+    /// Some ten minutes.
     pub const LONG: Sizes = Sizes {
         plans: 2_000_000,
-        octrees: 4_000,
-        grids: 3_000,
-        meshes: 200_000,
-        files: 20_000,
+        octrees: 3_000,
+        grids: 2_000,
+        meshes: 40_000,
+        files: 4_000,
         largest: true,
     };
 

@@ -8,7 +8,7 @@ use crate::library::Bounds;
 use crate::random::Random;
 use crate::report::Report;
 
-fn call(random: &mut Random, plan: &PlanCall, crossing: &[u8], split_len: usize) -> RefineCall {
+pub fn call(random: &mut Random, plan: &PlanCall, crossing: &[u8], split_len: usize) -> RefineCall {
     RefineCall {
         plan: plan.clone(),
         crossing: Lent::new(crossing),

@@ -2,6 +2,7 @@
 
 use crate::calls::PlanCall;
 use crate::library::Bounds;
+use lifted::lent::Layout;
 
 /// What a worked plan gives: dimensions and octants, or the number of its refusal.
 pub type Worked = Result<([i32; 3], usize), u32>;
@@ -58,4 +59,16 @@ pub fn plans() -> Vec<(PlanCall, Worked)> {
         plans.push((cube(0.0, 0.0, c, 0), Err(1)));
     }
     plans
+}
+
+/// The worked refinement of nine octants: its plan and its crossing answers.
+pub fn nine_octants() -> (PlanCall, Vec<u8>) {
+    let layout = Layout {
+        levels: 2,
+        dims: [6; 3],
+    };
+    let mut crossing = vec![0; layout.len()];
+    crossing[layout.place(2, [2, 2, 2])] = 1;
+    crossing[layout.place(1, [4, 4, 4])] = 1;
+    (cube(0.0, 0.0, 1.0, 2), crossing)
 }

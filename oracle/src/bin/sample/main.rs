@@ -12,9 +12,10 @@ const SEED: u64 = 2026;
 
 fn write(directory: &Path) -> std::io::Result<()> {
     let tape = choose::all(SEED);
-    std::fs::write(directory.join("stdin"), tape.bytes())?;
-    std::fs::write(directory.join("stdout"), tape.text())?;
-    println!("{tape}");
+    let (bytes, text) = (tape.bytes(), tape.text());
+    std::fs::write(directory.join("stdin"), &bytes)?;
+    std::fs::write(directory.join("stdout"), &text)?;
+    println!("{text}{} bytes", bytes.len());
     Ok(())
 }
 

@@ -1,7 +1,6 @@
 //! How each call stands on the tape: lengths of its tables, its values, the contents of its inputs;
-//! and what its replay prints: the answer, then each table that was lent to be written.
+//! and what its replay must give: the answer, then each table that was lent to be written.
 
-use crate::tape::spaced;
 use oracle::calls::Format;
 use oracle::calls::{
     Call, ComponentsCall, GridCall, KeepCall, OnePieceCall, PlanCall, ReadCall, RefineCall,
@@ -33,32 +32,19 @@ fn refill<T: Filled>(table: &mut Lent<T>) {
     table.all_mut().fill(T::FILLED);
 }
 
-fn in_full<T: Filled>(table: &Lent<T>) -> String {
-    let numbers: Vec<u64> = table.all().iter().map(|entry| (*entry).into()).collect();
-    spaced(&numbers)
+fn entries<T: Filled>(table: &Lent<T>) -> Vec<u64> {
+    table.all().iter().map(|entry| (*entry).into()).collect()
 }
 
-/// In full, or how many entries there are and the first, where all are the same.
-fn shown(table: &Lent<u32>) -> String {
-    match table.all() {
-        [first, rest @ ..] if !rest.is_empty() && rest.iter().all(|entry| entry == first) => {
-            format!("all {}", spaced(&[table.len() as u64, u64::from(*first)]))
-        }
-        _ => in_full(table),
-    }
+/// Bytes four to a word, the first lowest, and at least one byte of none behind them.
+fn packed(table: &Lent<u8>) -> Vec<u32> {
+    let mut bytes = table.all().to_vec();
+    bytes.resize(4 * (table.len() / 4 + 1), 0);
+    let (words, _) = bytes.as_chunks::<4>();
+    words.iter().map(|word| u32::from_le_bytes(*word)).collect()
 }
 
-/// How many entries from the first on are zero, of how many.
-fn zeros(table: &Lent<u64>) -> String {
-    let zeros = table.all().iter().take_while(|entry| **entry == 0).count();
-    spaced(&[zeros as u64, table.len() as u64])
-}
-
-fn bytes_as_words(table: &Lent<u8>) -> impl Iterator<Item = u32> + '_ {
-    table.all().iter().map(|byte| u32::from(*byte))
-}
-
-pub trait Record: Call<Outcome: Line> {
+pub trait Record: Call<Outcome: Values> {
     /// The step's number on the tape.
     fn code(&self) -> u32;
 
@@ -70,27 +56,27 @@ pub trait Record: Call<Outcome: Line> {
     /// The values and the contents of the inputs.
     fn words(&self) -> Vec<u32>;
 
-    /// The tables that the program prints after the call, a line each.
-    fn tables(&self) -> Vec<String>;
+    /// The entries of all tables lent to be written.
+    fn results(&self) -> Vec<u64>;
 }
 
-/// What is answered by value, as the program prints it.
-pub trait Line {
-    fn line(&self) -> String;
+/// What is answered by value.
+pub trait Values {
+    fn values(&self) -> Vec<u64>;
 }
 
-impl Line for Answer {
-    fn line(&self) -> String {
-        spaced(&[self.number.into(), self.first, self.second, self.third])
+impl Values for Answer {
+    fn values(&self) -> Vec<u64> {
+        vec![self.number.into(), self.first, self.second, self.third]
     }
 }
 
-impl Line for Planned {
-    fn line(&self) -> String {
+impl Values for Planned {
+    fn values(&self) -> Vec<u64> {
         let floats = self.origin.iter().chain([&self.half]).map(|x| x.to_bits());
         let whole = self.dims.into_iter().chain([self.octants]);
         let words = [self.number].into_iter().chain(floats).chain(whole);
-        spaced(&words.map(u64::from).collect::<Vec<_>>())
+        words.map(u64::from).collect()
     }
 }
 
@@ -117,14 +103,14 @@ impl Record for PlanCall {
         plan_words(self)
     }
 
-    fn tables(&self) -> Vec<String> {
+    fn results(&self) -> Vec<u64> {
         Vec::new()
     }
 }
 
 impl Record for ComponentsCall {
     fn code(&self) -> u32 {
-        1
+        6
     }
 
     fn lengths(&self) -> Vec<usize> {
@@ -148,22 +134,20 @@ impl Record for ComponentsCall {
         [self.input.points.all(), self.input.cells.all()].concat()
     }
 
-    fn tables(&self) -> Vec<String> {
-        vec![shown(&self.numbers), shown(&self.work)]
+    fn results(&self) -> Vec<u64> {
+        [entries(&self.numbers), entries(&self.work)].concat()
     }
 }
 
 impl Record for OnePieceCall {
     fn code(&self) -> u32 {
-        2
+        7
     }
 
     fn lengths(&self) -> Vec<usize> {
-        vec![
-            self.input.points.len(),
-            self.input.cells.len(),
-            self.work.len(),
-        ]
+        // As components with no room for numbers.
+        let input = &self.input;
+        vec![input.points.len(), input.cells.len(), 0, self.work.len()]
     }
 
     fn filled(&self) -> Self {
@@ -176,14 +160,14 @@ impl Record for OnePieceCall {
         [self.input.points.all(), self.input.cells.all()].concat()
     }
 
-    fn tables(&self) -> Vec<String> {
-        vec![shown(&self.work)]
+    fn results(&self) -> Vec<u64> {
+        entries(&self.work)
     }
 }
 
 impl Record for RefineCall {
     fn code(&self) -> u32 {
-        3
+        1
     }
 
     fn lengths(&self) -> Vec<usize> {
@@ -198,19 +182,17 @@ impl Record for RefineCall {
 
     fn words(&self) -> Vec<u32> {
         let plan = plan_words(&self.plan);
-        plan.into_iter()
-            .chain(bytes_as_words(&self.crossing))
-            .collect()
+        [plan, packed(&self.crossing)].concat()
     }
 
-    fn tables(&self) -> Vec<String> {
-        vec![in_full(&self.split)]
+    fn results(&self) -> Vec<u64> {
+        entries(&self.split)
     }
 }
 
 impl Record for GridCall {
     fn code(&self) -> u32 {
-        4
+        2
     }
 
     fn lengths(&self) -> Vec<usize> {
@@ -234,20 +216,18 @@ impl Record for GridCall {
 
     fn words(&self) -> Vec<u32> {
         let plan = plan_words(&self.plan);
-        plan.into_iter()
-            .chain(bytes_as_words(&self.split))
-            .collect()
+        [plan, packed(&self.split)].concat()
     }
 
-    fn tables(&self) -> Vec<String> {
-        let results = [&self.cells, &self.triples, &self.points].map(shown);
-        [results.to_vec(), vec![zeros(&self.work)]].concat()
+    fn results(&self) -> Vec<u64> {
+        let stored = [&self.cells, &self.triples, &self.points].map(entries);
+        [stored.concat(), entries(&self.work)].concat()
     }
 }
 
 impl Record for RepresentativesCall {
     fn code(&self) -> u32 {
-        5
+        3
     }
 
     fn lengths(&self) -> Vec<usize> {
@@ -270,39 +250,42 @@ impl Record for RepresentativesCall {
 
     fn words(&self) -> Vec<u32> {
         let mesh = [self.input.points.all(), self.input.cells.all()].concat();
-        mesh.into_iter()
-            .chain(bytes_as_words(&self.crossing))
-            .collect()
+        [mesh, packed(&self.crossing)].concat()
     }
 
-    fn tables(&self) -> Vec<String> {
+    fn results(&self) -> Vec<u64> {
         [&self.numbers, &self.centroids, &self.work]
-            .map(shown)
-            .to_vec()
+            .map(entries)
+            .concat()
     }
+}
+
+/// Crust stands on the tape with an empty probe table.
+fn probe(call: &KeepCall) -> Lent<u8> {
+    call.probe.clone().unwrap_or_else(|| Lent::new(&[]))
 }
 
 impl Record for KeepCall {
     fn code(&self) -> u32 {
         match self.probe {
-            Some(_) => 6,
-            None => 7,
+            Some(_) => 4,
+            None => 5,
         }
     }
 
     fn lengths(&self) -> Vec<usize> {
-        let probe = self.probe.iter().map(|table| table.len());
         let inputs = [
             self.input.points.len(),
             self.input.cells.len(),
             self.crossing.len(),
+            probe(self).len(),
         ];
         let room = [
             self.kept_points.len(),
             self.kept_cells.len(),
             self.work.len(),
         ];
-        inputs.into_iter().chain(probe).chain(room).collect()
+        [&inputs[..], &room].concat()
     }
 
     fn filled(&self) -> Self {
@@ -317,15 +300,15 @@ impl Record for KeepCall {
         let mut words = vec![self.c.to_bits()];
         words.extend(self.input.points.all());
         words.extend(self.input.cells.all());
-        words.extend(bytes_as_words(&self.crossing));
-        words.extend(self.probe.iter().flat_map(bytes_as_words));
+        words.extend(packed(&self.crossing));
+        words.extend(packed(&probe(self)));
         words
     }
 
-    fn tables(&self) -> Vec<String> {
+    fn results(&self) -> Vec<u64> {
         [&self.kept_points, &self.kept_cells, &self.work]
-            .map(shown)
-            .to_vec()
+            .map(entries)
+            .concat()
     }
 }
 
@@ -358,8 +341,8 @@ impl Record for WriteCall {
         [self.input.points.all(), self.input.cells.all()].concat()
     }
 
-    fn tables(&self) -> Vec<String> {
-        vec![in_full(&self.file), shown(&self.work)]
+    fn results(&self) -> Vec<u64> {
+        [entries(&self.file), entries(&self.work)].concat()
     }
 }
 
@@ -389,10 +372,12 @@ impl Record for ReadCall {
     }
 
     fn words(&self) -> Vec<u32> {
-        bytes_as_words(&self.file).collect()
+        packed(&self.file)
     }
 
-    fn tables(&self) -> Vec<String> {
-        [&self.points, &self.cells, &self.work].map(shown).to_vec()
+    fn results(&self) -> Vec<u64> {
+        [&self.points, &self.cells, &self.work]
+            .map(entries)
+            .concat()
     }
 }

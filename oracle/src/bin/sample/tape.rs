@@ -1,80 +1,87 @@
 //! The tape of calls, words of 32 bits, and the lines that its replay must print.
 
-use crate::record::{Line, Record};
+use crate::record::{Record, Values};
 use oracle::calls::Outcome;
 use std::collections::BTreeMap;
-use std::fmt;
 
-/// The most entries of a table and the most words of a call, so that the program stays small.
+/// The most entries of a table that the program has room for.
 const MOST_ENTRIES: usize = 16_384;
-/// What the program can read, the first word aside.
-const MOST_WORDS: usize = 1_048_576 / 4 - 1;
+/// The bytes of tape that the program has room for.
+const MOST_BYTES: usize = 262_144;
 
-#[derive(Default)]
-pub struct Tape {
+/// The calls of one step that are answered with one number.
+struct Section {
+    step: &'static str,
     calls: u32,
     words: Vec<u32>,
-    text: String,
-    chosen: BTreeMap<(&'static str, u32), usize>,
+}
+
+/// Sections by the step's number on the tape and by the number answered.
+#[derive(Default)]
+pub struct Tape {
+    sections: BTreeMap<(u32, u32), Section>,
+}
+
+/// A digest of what a call answered and left, as the program takes it: a polynomial modulo a prime.
+fn digest(values: &[u64]) -> u32 {
+    const MODULUS: u64 = 4_294_967_291;
+    const FACTOR: u64 = 2_654_435_761;
+    let mixed = |digest: u64, value: &u64| (digest * FACTOR + value % MODULUS) % MODULUS;
+    values.iter().fold(0, mixed) as u32
 }
 
 impl Tape {
-    /// Takes a call in, if it is small enough and there are fewer than `most` of its step with the
-    /// same number. Says whether it did.
-    pub fn offer<R: Record>(&mut self, call: &R, most: usize) -> bool {
+    /// Takes a call in, if the program has room for it and there are fewer than `most` of its step
+    /// with the same number; twice as many where the step answers.
+    pub fn offer<R: Record>(&mut self, call: &R, most: u32) {
         if call.lengths().iter().any(|len| *len > MOST_ENTRIES) {
-            return false;
+            return;
         }
-        let mut filled = call.filled();
-        let mut words = vec![call.code()];
-        words.extend(call.lengths().iter().map(|len| *len as u32));
-        words.extend(filled.words());
-        let outcome = filled.expected();
-        let chosen = self
-            .chosen
-            .entry((call.step(), outcome.number()))
-            .or_default();
-        if *chosen == most || self.words.len() + words.len() > MOST_WORDS {
-            return false;
+        let mut call = call.filled();
+        let lengths: Vec<u32> = call.lengths().iter().map(|len| *len as u32).collect();
+        let inputs = call.words();
+        let outcome = call.expected();
+        let section = self
+            .sections
+            .entry((call.code(), outcome.number()))
+            .or_insert_with(|| Section {
+                step: call.step(),
+                calls: 0,
+                words: Vec::new(),
+            });
+        let most = match outcome.number() {
+            0 => most.saturating_mul(2),
+            _ => most,
+        };
+        if section.calls < most {
+            section.calls += 1;
+            section
+                .words
+                .push(digest(&[outcome.values(), call.results()].concat()));
+            section.words.extend(lengths);
+            section.words.extend(inputs);
         }
-        *chosen += 1;
-        self.calls += 1;
-        self.words.extend(words);
-        self.text += &outcome.line();
-        for line in filled.tables() {
-            self.text += &line;
-        }
-        true
     }
 
     pub fn bytes(&self) -> Vec<u8> {
-        let words = [self.calls].into_iter().chain(self.words.iter().copied());
-        words.flat_map(u32::to_le_bytes).collect()
-    }
-
-    pub fn text(&self) -> &str {
-        &self.text
-    }
-}
-
-/// Numbers as the program prints them: each with a space behind it, then the line's end.
-pub fn spaced(numbers: &[u64]) -> String {
-    let mut line: String = numbers.iter().map(|n| format!("{n} ")).collect();
-    line.push('\n');
-    line
-}
-
-impl fmt::Display for Tape {
-    fn fmt(&self, f: &mut fmt::Formatter) -> fmt::Result {
-        for ((step, number), times) in &self.chosen {
-            writeln!(f, "{step:<16} {number:>3}: {times}")?;
+        let mut words = vec![self.sections.len() as u32];
+        for ((code, number), section) in &self.sections {
+            words.extend([*code, *number, section.calls]);
+            words.extend(&section.words);
         }
-        write!(
-            f,
-            "{} calls, {} words, {} bytes of answers",
-            self.calls,
-            self.words.len() + 1,
-            self.text.len()
-        )
+        let bytes: Vec<u8> = words.into_iter().flat_map(u32::to_le_bytes).collect();
+        assert!(bytes.len() <= MOST_BYTES, "a tape of {}", bytes.len());
+        bytes
+    }
+
+    /// What the program prints where every call gives what the Rust gave.
+    pub fn text(&self) -> String {
+        let told = |((_, number), section): (&(u32, u32), &Section)| {
+            let Section { step, calls, .. } = section;
+            format!("{step} {number}: {calls} calls, 0 differences\n")
+        };
+        let lines: String = self.sections.iter().map(told).collect();
+        let calls: u32 = self.sections.values().map(|section| section.calls).sum();
+        format!("{lines}all: {calls} calls, 0 differences\n")
     }
 }

@@ -6,8 +6,8 @@ use Rattle.replay.proofs.tape.fill_bytes.Statement.{statement}
 use Rattle.replay.proofs.tape.fill_bytes.Tie as tie
 use Rattle.replay.proofs.tape.fill_bytes.Reads as reads
 use Rattle.replay.proofs.tape.fill_bytes.Lts as lts
+use Rattle.replay.proofs.tape.byte.Reads as byte-reads
 use Rattle.replay.proofs.tape.on.Reads as on-reads
-use Rattle.replay.proofs.tape.word.Reads as word-reads
 
 abbrev Inv-loop : tie.InvT-loop
 Inv-loop tape at table₀ i₀ table i = (i ≤ length table₀) × (length table ≡ length table₀)
@@ -18,14 +18,8 @@ abbrev μ-loop : tie.MeasureT-loop
 loop-holds : tie.Need-loop-holds Inv-loop μ-loop
 loop-holds c = search needs
 
-on-requires : tie.Need-on-requires Inv-loop μ-loop
-on-requires c κs = search needs
-
-word-requires : tie.Need-word-requires Inv-loop μ-loop
-word-requires c κs = search needs
-
-cast-table : tie.Need-cast-table Inv-loop μ-loop
-cast-table c = search needs
+byte-requires : tie.Need-byte-requires Inv-loop μ-loop
+byte-requires c κs = search needs
 
 slice-write-table : tie.Need-slice-write-table Inv-loop μ-loop
 slice-write-table c = search needs
@@ -39,8 +33,11 @@ loop-less c = search needs
 loop-again : tie.Need-loop-again Inv-loop μ-loop
 loop-again c = search needs
 
-on-requires-2 : tie.Need-on-requires-2 Inv-loop μ-loop
-on-requires-2 c κs = search needs
+add-on : tie.Need-add-on Inv-loop μ-loop
+add-on c = search needs
+
+on-requires : tie.Need-on-requires Inv-loop μ-loop
+on-requires c κs = search needs
 
 same-length : tie.Need-same-length Inv-loop μ-loop
 same-length c = search needs
@@ -55,13 +52,12 @@ fill-bytes-spec =
     Inv-loop
     μ-loop
     loop-holds
-    on-requires
-    word-requires
-    cast-table
+    byte-requires
     slice-write-table
     add-i
     loop-less
     loop-again
-    on-requires-2
+    add-on
+    on-requires
     same-length
     returns)

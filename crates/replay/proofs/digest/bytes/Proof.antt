@@ -2,18 +2,17 @@ use borrow.Author.Needs.{needs}
 use mathlib.Core.Path.{_≡_}
 use Prim.Native.Nat.{_≤_, _-_}
 use lib.ListN.{length}
-use Rattle.replay.proofs.show.bytes.Statement.{statement}
-use Rattle.replay.proofs.show.bytes.Tie as tie
-use Rattle.replay.proofs.show.bytes.Reads as reads
-use Rattle.replay.proofs.show.bytes.Lts as lts
-use Rattle.replay.proofs.show.byte.Reads as byte-reads
-use Rattle.replay.proofs.show.end.Reads as end-reads
+use Rattle.replay.proofs.digest.bytes.Statement.{statement}
+use Rattle.replay.proofs.digest.bytes.Tie as tie
+use Rattle.replay.proofs.digest.bytes.Reads as reads
+use Rattle.replay.proofs.digest.bytes.Lts as lts
+use Rattle.replay.proofs.digest.byte.Reads as byte-reads
 
 abbrev Inv-loop : tie.InvT-loop
-Inv-loop entries i₀ i = i ≤ length entries
+Inv-loop digest entries d₀ i₀ d i = i ≤ length entries
 
 abbrev μ-loop : tie.MeasureT-loop
-μ-loop entries i₀ i = length entries - i
+μ-loop digest entries d₀ i₀ d i = length entries - i
 
 loop-holds : tie.Need-loop-holds Inv-loop μ-loop
 loop-holds c = search needs
@@ -33,9 +32,6 @@ loop-less c = search needs
 loop-again : tie.Need-loop-again Inv-loop μ-loop
 loop-again c = search needs
 
-end-requires : tie.Need-end-requires Inv-loop μ-loop
-end-requires c κs = search needs
-
 returns : tie.Need-returns Inv-loop μ-loop
 returns c = search needs
 
@@ -51,5 +47,4 @@ bytes-spec =
     add-i
     loop-less
     loop-again
-    end-requires
     returns)

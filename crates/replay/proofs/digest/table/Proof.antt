@@ -1,0 +1,54 @@
+use borrow.Author.Needs.{needs}
+use mathlib.Core.Path.{_≡_}
+use Prim.Native.Nat.{_≤_, _-_}
+use lib.ListN.{length}
+use Rattle.replay.proofs.digest.table.Statement.{statement}
+use Rattle.replay.proofs.digest.table.Tie as tie
+use Rattle.replay.proofs.digest.table.Reads as reads
+use Rattle.replay.proofs.digest.table.Lts as lts
+use Rattle.replay.proofs.digest.word.Reads as word-reads
+
+abbrev Inv-loop : tie.InvT-loop
+Inv-loop digest entries d₀ i₀ d i = i ≤ length entries
+
+abbrev μ-loop : tie.MeasureT-loop
+μ-loop digest entries d₀ i₀ d i = length entries - i
+
+loop-holds : tie.Need-loop-holds Inv-loop μ-loop
+loop-holds c = search needs
+
+mul-word : tie.Need-mul-word Inv-loop μ-loop
+mul-word c = search needs
+
+shared-slice-read-word : tie.Need-shared-slice-read-word Inv-loop μ-loop
+shared-slice-read-word c = search needs
+
+word-requires : tie.Need-word-requires Inv-loop μ-loop
+word-requires c κs = search needs
+
+add-i : tie.Need-add-i Inv-loop μ-loop
+add-i c = search needs
+
+loop-less : tie.Need-loop-less Inv-loop μ-loop
+loop-less c = search needs
+
+loop-again : tie.Need-loop-again Inv-loop μ-loop
+loop-again c = search needs
+
+returns : tie.Need-returns Inv-loop μ-loop
+returns c = search needs
+
+pub table-spec : {M : Type 1} → statement M
+table-spec =
+    tie.close
+    (tie.spec
+    Inv-loop
+    μ-loop
+    loop-holds
+    mul-word
+    shared-slice-read-word
+    word-requires
+    add-i
+    loop-less
+    loop-again
+    returns)
