@@ -26,6 +26,10 @@ cells-in big led b at cells = omega (arith, length-words big led b at (4 * cells
 pub first-fits : (led : Bool) (at cells i size : ℕ) → at + spanOf led (4 * cells) ≤ size → i < cells → at + 4 * placeOf led (i * 4) + 4 ≤ size
 first-fits led at cells i size s h = let k : i * 4 < 4 * cells = omega arith in omega (arith, in-span led (i * 4) (4 * cells) k)
 
+pub number-fits : (at cells i size : ℕ) → at + 4 * cells ≤ size → i < cells → at + 4 * placeOf false i + 4 ≤ size
+unfolding placeOf
+number-fits at cells i size s h = omega arith
+
 pub record Comparing (big led : Bool) (b : List ℕ) (at numbers cells : ℕ) (w : List ℕ) (n count i : ℕ) : Type 0 where
   pub numbering : Numbering (wordsAt big led b at (4 * cells)) w n count i
   pub left : same (wordsAt big false b numbers cells) (componentNumbers (wordsAt big led b at (4 * cells)) cells)
@@ -58,13 +62,12 @@ module _ (big led : Bool) (b : List ℕ) (at numbers cells : ℕ) where
       pub count-fits : count + 1 < 4294967296
       count-fits = omega (arith, Rattle.components.proofs.Numbering.count-small (l .numbering) i-in v v-is)
 
-      module _ (w′ : List ℕ) (k : ℕ) (kept : length w′ ≡ length w) (a : NumberedAt n w w′ v count k) (x : ℕ) (ex : x ≡ wordAt big b (numbers + 4 * i)) where
+      module _ (w′ : List ℕ) (k : ℕ) (kept : length w′ ≡ length w) (a : NumberedAt n w w′ v count k) (x : ℕ) (ex : x ≡ wordAt big b (numbers + 4 * placeOf false i)) where
         k-is : k ≡ getD N i 0
         k-is =
             number-is (l .numbering) i-in v v-is w′ k kept a ∙ ap (λ (m : ℕ). getD (componentNumbers C m) i 0) (cells-in big led b at cells)
 
         x-is : x ≡ getD W i 0
-        unfolding placeOf
         x-is = ex ∙ sym (words-at big false b numbers cells i h)
 
         in-w : i < length W

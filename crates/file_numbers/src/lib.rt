@@ -6,7 +6,7 @@ ghost use Prim.Native.Nat.{ℕ, _+_, _*_, _≤_};
 ghost use lib.ListN.{length, replicate};
 ghost use lib.Seq.{sets};
 ghost use Rattle.lists.specs.Tables.{same, cellsOf};
-ghost use Rattle.words.specs.Words.{bytesOf, wordsAt, spanOf};
+ghost use Rattle.words.specs.Words.{bytesOf, wordAt, placeOf, wordsAt, spanOf};
 ghost use Rattle.links.specs.Forest.{Forest};
 ghost use Rattle.links.specs.Vertices.{Cells, JoinedCell, Joint};
 ghost use Rattle.components.specs.Numbers.{componentNumbers, Linked, Fits};
@@ -47,6 +47,17 @@ fn prepare(file: &[u8], at: usize, big: bool, led: bool, cells: usize, work: &mu
     lists::zero(&mut work[n..]);
 }
 
+// The word number i of those from a place on. The order of the bytes is asked before they are read, so that they are one load in a loop.
+fn word_of(file: &[u8], at: usize, big: bool, led: bool, i: usize) -> u32
+    requires { ⌜ at + 4 * placeOf led i + 4 ≤ length (now file) ⌝ }
+    ensures { λ r. ⌜ r ≡ wordAt big (now (file .entry)) (at + 4 * placeOf led i) ⌝ }
+{
+    if big {
+        return words::word_of(file, at, true, led, i);
+    }
+    words::word_of(file, at, false, led, i)
+}
+
 // Whether the words at `numbers` are the numbers of the cells by the first appearance of their groups.
 fn compare(
     file: &[u8],
@@ -64,9 +75,9 @@ fn compare(
     let mut count: usize = 0;
     let mut i: usize = 0;
     while i < cells {
-        let v = lists::wide(words::word_of(file, at, big, led, i * 4));
+        let v = lists::wide(word_of(file, at, big, led, i * 4));
         let k = components::number_at(work, n, v, count);
-        if lists::wide(words::word(file, numbers + 4 * i, big)) != k {
+        if lists::wide(word_of(file, numbers, big, false, i)) != k {
             return false;
         }
         if k == count {

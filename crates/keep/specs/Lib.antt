@@ -1,4 +1,4 @@
 -- The definitions that the contracts of keep cite.
 pub mod Marked
 pub mod Step
-pub mod Worked
+pub mod Example

@@ -61,6 +61,18 @@ module _ (P C X o z w : List ℕ) where
   unfolding crossedRows sizeRows lengthRows under
   low = first-under 9 (crossedRows (length P) C X (length w) (pointsOf P + cellsOf C)) (omega arith) refl
 
+  -- short of room or not, the work is zero
+  work-after : workAfter (listedOf C X o z) P C w ≡ replicate (pointsOf P + cellsOf C) 0 ++ drop (pointsOf P + cellsOf C) w
+  unfolding listedOf among
+  work-after = go (ltb (length o) (countOf C X)) (ltb (length z / 3) (countOf C X))
+    where
+      go : (s t : Bool)
+          → workAfter (cond s (Short (countOf C X)) (cond t (Short (countOf C X)) (Done (countOf C X)))) P C w
+          ≡ replicate (pointsOf P + cellsOf C) 0 ++ drop (pointsOf P + cellsOf C) w
+      go true t = refl
+      go false true = refl
+      go false false = refl
+
   pub refused : {r : ℕ} → r ≡ first (crossedRows (length P) C X (length w) (pointsOf P + cellsOf C)) → r ≢ 0
       → RepresentativesDone P C X o z w (Refused r) o z w
   unfolding representedOf allFrom
@@ -82,18 +94,6 @@ module _ (P C X o z w : List ℕ) where
       points = λ p h. omega (arith, fits .cells .names p h);
       sized = sized-front (length P) C X w fits;
     }
-
-    -- short of room or not, the work is zero
-    work-after : workAfter (listedOf C X o z) P C w ≡ replicate (pointsOf P + cellsOf C) 0 ++ drop (pointsOf P + cellsOf C) w
-    unfolding listedOf among
-    work-after = go (ltb (length o) (countOf C X)) (ltb (length z / 3) (countOf C X))
-      where
-        go : (s t : Bool)
-            → workAfter (cond s (Short (countOf C X)) (cond t (Short (countOf C X)) (Done (countOf C X)))) P C w
-            ≡ replicate (pointsOf P + cellsOf C) 0 ++ drop (pointsOf P + cellsOf C) w
-        go true t = refl
-        go false true = refl
-        go false false = refl
 
     pub done : {r : Represented} {o′ z′ w′ : List ℕ} → Represents P C X o z r o′ z′ → w′ ≡ replicate (length (take (pointsOf P + cellsOf C) w)) 0
         → RepresentativesDone P C X o z w r o′ z′ (w′ ++ drop (pointsOf P + cellsOf C) w)

@@ -1,4 +1,4 @@
 -- The definitions that the contracts of representatives cite.
 pub mod Highest
 pub mod Step
-pub mod Worked
+pub mod Example

@@ -1,4 +1,4 @@
 -- The definitions that the contracts of volume cite.
 pub mod Cell
 pub mod Volume
-pub mod Worked
+pub mod Example

@@ -2,16 +2,15 @@ use mathlib.Core.Path.{_≡_, sym, _∙_}
 use mathlib.Core.Logic.{⊎-elim, inl, inr}
 use native.Mathlib.Omega.{arith}
 use Prim.Native.Nat.{_-_}
-use Rattle.file_numbers.proofs.Comparing.{Comparing, comparing-start, first-fits, comparing-asks, count-fits, comparing-off, comparing-on, comparing-end}
+use Rattle.file_numbers.proofs.Comparing.{Comparing, comparing-start, first-fits, number-fits, comparing-asks, count-fits, comparing-off, comparing-on, comparing-end}
 use borrow.Author.Needs.{needs}
 use Rattle.file_numbers.proofs.compare.Statement.{statement}
 use Rattle.file_numbers.proofs.compare.Tie as tie
 use Rattle.file_numbers.proofs.compare.Reads as reads
 use Rattle.file_numbers.proofs.compare.Lts as lts
 use Rattle.components.proofs.number_at.Reads as number-at-reads
+use Rattle.file_numbers.proofs.word_of.Reads as word-of-reads
 use Rattle.lists.proofs.wide.Reads as wide-reads
-use Rattle.words.proofs.word.Reads as word-reads
-use Rattle.words.proofs.word_of.Reads as word-of-reads
 
 abbrev Inv-loop : tie.InvT-loop
 Inv-loop file at numbers big led cells work₀ n count₀ i₀ work count i = Comparing big led file at numbers cells work n count i
@@ -34,14 +33,8 @@ wide-requires c κs = search needs
 number-at-requires : tie.Need-number-at-requires Inv-loop μ-loop
 number-at-requires c κs = comparing-asks _ _ _ _ _ _ _ _ _ _ (c .before .before .before .before .loop .inv) (c .before .before .before .loop-test .taken) _ (c .before .wide .ensures ∙ c .before .before .word-of .ensures)
 
-mul-word : tie.Need-mul-word Inv-loop μ-loop
-mul-word c = search needs
-
-add-word : tie.Need-add-word Inv-loop μ-loop
-add-word c = search needs
-
-word-requires : tie.Need-word-requires Inv-loop μ-loop
-word-requires c κs = search needs
+word-of-requires-2 : tie.Need-word-of-requires-2 Inv-loop μ-loop
+word-of-requires-2 c κs = number-fits _ _ _ _ (c .before .before .before .before .before .before .before .before .before .before .pre .2) (c .before .before .before .before .before .before .loop-test .taken)
 
 wide-requires-2 : tie.Need-wide-requires-2 Inv-loop μ-loop
 wide-requires-2 c κs = search needs
@@ -50,7 +43,7 @@ same-length : tie.Need-same-length Inv-loop μ-loop
 same-length c = c .before .before .before .before .before .number-at .kept .0 ∙ c .before .before .before .before .before .before .before .before .before .before .loop .inv .numbering .long ∙ sym (c .before .before .before .before .before .before .before .before .before .before .before .before .before .pre .0 .long)
 
 returns : tie.Need-returns Inv-loop μ-loop
-returns c = comparing-off _ _ _ _ _ _ _ _ _ _ (c .before .before .before .before .before .before .before .before .before .before .loop .inv) (c .before .before .before .before .before .before .before .before .before .loop-test .taken) _ (c .before .before .before .before .before .before .before .wide .ensures ∙ c .before .before .before .before .before .before .before .before .word-of .ensures) _ _ (c .before .before .before .before .before .number-at .kept .0) (c .before .before .before .before .before .number-at .ensures) _ (c .before .wide2 .ensures ∙ c .before .before .word .ensures) (c .if1 .taken)
+returns c = comparing-off _ _ _ _ _ _ _ _ _ _ (c .before .before .before .before .before .before .before .before .before .before .loop .inv) (c .before .before .before .before .before .before .before .before .before .loop-test .taken) _ (c .before .before .before .before .before .before .before .wide .ensures ∙ c .before .before .before .before .before .before .before .before .word-of .ensures) _ _ (c .before .before .before .before .before .number-at .kept .0) (c .before .before .before .before .before .number-at .ensures) _ (c .before .wide2 .ensures ∙ c .before .before .word-of2 .ensures) (c .if1 .taken)
 
 add-count : tie.Need-add-count Inv-loop μ-loop
 add-count c = omega (arith, count-fits _ _ _ _ _ _ _ _ _ _ (c .before .before .before .before .before .before .before .before .before .before .before .loop .inv) (c .before .before .before .before .before .before .before .before .before .before .loop-test .taken) _ (c .before .before .before .before .before .before .before .before .wide .ensures ∙ c .before .before .before .before .before .before .before .before .before .word-of .ensures))
@@ -62,7 +55,7 @@ loop-less : tie.Need-loop-less Inv-loop μ-loop
 loop-less c = search needs
 
 loop-again : tie.Need-loop-again Inv-loop μ-loop
-loop-again c = comparing-on _ _ _ _ _ _ _ _ _ _ (c .before .before .before .before .before .before .before .before .before .before .before .loop .inv) (c .before .before .before .before .before .before .before .before .before .before .loop-test .taken) _ (c .before .before .before .before .before .before .before .before .wide .ensures ∙ c .before .before .before .before .before .before .before .before .before .word-of .ensures) _ _ (c .before .before .before .before .before .before .number-at .kept .0) (c .before .before .before .before .before .before .number-at .ensures) _ (c .before .before .wide2 .ensures ∙ c .before .before .before .word .ensures) (c .before .if1 .left) _ (⊎-elim (λ a. inl (a .0 .taken, a .1)) (λ a. inr (a .0 .left, a .1)) (c .if2 .came))
+loop-again c = comparing-on _ _ _ _ _ _ _ _ _ _ (c .before .before .before .before .before .before .before .before .before .before .before .loop .inv) (c .before .before .before .before .before .before .before .before .before .before .loop-test .taken) _ (c .before .before .before .before .before .before .before .before .wide .ensures ∙ c .before .before .before .before .before .before .before .before .before .word-of .ensures) _ _ (c .before .before .before .before .before .before .number-at .kept .0) (c .before .before .before .before .before .before .number-at .ensures) _ (c .before .before .wide2 .ensures ∙ c .before .before .before .word-of2 .ensures) (c .before .if1 .left) _ (⊎-elim (λ a. inl (a .0 .taken, a .1)) (λ a. inr (a .0 .left, a .1)) (c .if2 .came))
 
 same-length-2 : tie.Need-same-length-2 Inv-loop μ-loop
 same-length-2 c = c .before .loop .inv .numbering .long ∙ sym (c .before .before .before .before .pre .0 .long)
@@ -81,9 +74,7 @@ compare-spec =
     word-of-requires
     wide-requires
     number-at-requires
-    mul-word
-    add-word
-    word-requires
+    word-of-requires-2
     wide-requires-2
     same-length
     returns

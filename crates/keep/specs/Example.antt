@@ -1,4 +1,4 @@
--- Worked numbers of document 01 for keeping, computed from the definitions: one table, one theorem.
+-- Calls of `keep_cover` with all that they answer and leave, computed from the definitions.
 use mathlib.Core.Path.{_≡_, refl}
 use mathlib.Core.Bool.{Bool, true, false}
 use mathlib.Core.List.{List, [], _∷_, _++_, map}
@@ -48,26 +48,14 @@ one = 0x3f80_0000
 abbrev unit-points : List ℕ
 unit-points = 0 ∷ 0 ∷ 0 ∷ one ∷ 0 ∷ 0 ∷ 0 ∷ one ∷ 0 ∷ 0 ∷ 0 ∷ one ∷ []
 
--- eight points whose numbers 4, 2, 7, 0 are 0, x, y, z unit, and the others (1, 1, 1)
-abbrev eight-points : List ℕ
-eight-points =
-    (0 ∷ 0 ∷ one ∷ []) ++ (one ∷ one ∷ one ∷ []) ++ (one ∷ 0 ∷ 0 ∷ []) ++ (one ∷ one ∷ one ∷ [])
-    ++ (0 ∷ 0 ∷ 0 ∷ []) ++ (one ∷ one ∷ one ∷ []) ++ (one ∷ one ∷ one ∷ []) ++ (0 ∷ one ∷ 0 ∷ [])
-
 abbrev case : ℕ → List ℕ → List ℕ → List ℕ → List ℕ → ℕ → ℕ → ℕ → ℕ → List ℕ → List ℕ → List ℕ → List ℕ → List ℕ → Case
 case c p k x s a b w n v f pa ca wa =
     record { size = c; points = p; cells = k; crossing = x; probe = s; point-room = a; cell-room = b; work = w; number = n; values = v; final = f; points-after = pa; cells-after = ca; work-after = wa }
 
 abbrev table : List Case
 table =
-    -- [0,2,1,3] becomes [2,0,1,3]; compacted it is [0,1,2,3] of the points 2, 0, 1, 3
-    case one unit-points (0 ∷ 2 ∷ 1 ∷ 3 ∷ []) (1 ∷ []) (0 ∷ []) 12 4 10 0 (4 ∷ 1 ∷ 0 ∷ []) (2 ∷ 0 ∷ 1 ∷ 3 ∷ [])
-    (0 ∷ one ∷ 0 ∷ 0 ∷ 0 ∷ 0 ∷ one ∷ 0 ∷ 0 ∷ 0 ∷ 0 ∷ one ∷ []) (0 ∷ 1 ∷ 2 ∷ 3 ∷ []) (replicate 9 0 ++ (7 ∷ []))
-    -- only [4,2,7,0] kept: points 4, 2, 7, 0 and cell [0,1,2,3]
-    ∷ case one eight-points (1 ∷ 3 ∷ 5 ∷ 6 ∷ 4 ∷ 2 ∷ 7 ∷ 0 ∷ []) (0 ∷ 1 ∷ []) (0 ∷ 0 ∷ []) 13 5 18 0 (4 ∷ 1 ∷ 0 ∷ []) (4 ∷ 2 ∷ 7 ∷ 0 ∷ [])
-    (unit-points ++ (7 ∷ [])) (0 ∷ 1 ∷ 2 ∷ 3 ∷ 7 ∷ []) (replicate 18 0)
     -- the highest cell of a group decides: cells 0 and 1 share point 3, and cell 1 is flat and dropped
-    ∷ case one unit-points (0 ∷ 1 ∷ 2 ∷ 3 ∷ 3 ∷ 3 ∷ 3 ∷ 3 ∷ []) (0 ∷ 0 ∷ []) (0 ∷ 1 ∷ []) 12 4 10 0 (4 ∷ 1 ∷ 1 ∷ []) (0 ∷ 1 ∷ 2 ∷ 3 ∷ [])
+    case one unit-points (0 ∷ 1 ∷ 2 ∷ 3 ∷ 3 ∷ 3 ∷ 3 ∷ 3 ∷ []) (0 ∷ 0 ∷ []) (0 ∷ 1 ∷ []) 12 4 10 0 (4 ∷ 1 ∷ 1 ∷ []) (0 ∷ 1 ∷ 2 ∷ 3 ∷ [])
     unit-points (0 ∷ 1 ∷ 2 ∷ 3 ∷ []) (replicate 10 0)
     -- and the lowest does not
     ∷ case one unit-points (0 ∷ 1 ∷ 2 ∷ 3 ∷ 3 ∷ 3 ∷ 3 ∷ 3 ∷ []) (0 ∷ 0 ∷ []) (1 ∷ 0 ∷ []) 12 4 10 10 [] [] (sevens 12) (sevens 4) (replicate 10 0)
@@ -93,6 +81,6 @@ asked k =
     case (k .size) (k .points) (k .cells) (k .crossing) (k .probe) (k .point-room) (k .cell-room) (k .work) (numberOf a) (valuesOf a) F
     (pointsAfter a (k .points) F p) (cellsAfter a F q) (workAfter a (k .points) (k .cells) w)
 
-worked : map asked table ≡ table
+examples : map asked table ≡ table
 unfolding ofBits add sub mul div neg lt first unless lengthRows allBelow among run place noted any shares touched takenOver addCell labels labelAt pointOf cornersOf volumeOf sizeOf verdictOf verdictAt sizeRows crossedRows firstUses usedOf renumbered pointBits pointsAt shaped isDropped shapeAt lostAt finalCells droppedCells keptOf crustMark isInside coverMark crustRows coverRows keepOf
-worked = refl
+examples = refl

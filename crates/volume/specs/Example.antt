@@ -1,4 +1,4 @@
--- Worked numbers of document 01 for volumes and centroids, computed from the definitions: one table, one theorem.
+-- Verdicts and centroids of cells, computed from the definitions.
 use mathlib.Core.Path.{_≡_, refl}
 use mathlib.Core.List.{List, [], _∷_, map}
 use Prim.Native.Nat.{ℕ}
@@ -63,6 +63,6 @@ asked k =
     let z = centroidOf (m .a) (m .b) (m .c) (m .d) in
     case (k .points) (k .cell) (k .size) (verdictAt (k .points) (k .cell) 0 (leastOf (f32 (k .size)))) (toBits binary32 (z .x) ∷ toBits binary32 (z .y) ∷ toBits binary32 (z .z) ∷ [])
 
-worked : map asked table ≡ table
+examples : map asked table ≡ table
 unfolding ofBits toBits add sub mul div neg lt pointOf cornersOf volumeOf sizeOf verdictOf verdictAt
-worked = refl
+examples = refl

@@ -1,4 +1,4 @@
--- Worked numbers of document 01 for representatives, computed from the definitions: one table, one theorem.
+-- Calls of `representatives` with all that they answer and leave, computed from the definitions.
 use mathlib.Core.Path.{_≡_, refl}
 use mathlib.Core.List.{List, [], _∷_, _++_, map}
 use Prim.Native.Nat.{ℕ}
@@ -43,9 +43,8 @@ case p c x n z w k v na za wa =
 
 abbrev table : List Case
 table =
-    -- none crossing: 1 and 2; cell 1 crossing: 0 and 2
-    case 33 three (0 ∷ 0 ∷ 0 ∷ []) 3 7 15 0 (2 ∷ []) (1 ∷ 2 ∷ 7 ∷ []) (ones 6 ++ (7 ∷ [])) (replicate 14 0 ++ (7 ∷ []))
-    ∷ case 33 three (0 ∷ 1 ∷ 0 ∷ []) 2 6 14 0 (2 ∷ []) (0 ∷ 2 ∷ []) (ones 6) (replicate 14 0)
+    -- the last cell crossing: one group, with room to spare
+    case 33 three (0 ∷ 0 ∷ 1 ∷ []) 2 4 15 0 (1 ∷ []) (1 ∷ 7 ∷ []) (ones 3 ++ (7 ∷ [])) (replicate 14 0 ++ (7 ∷ []))
     -- one number, or one coordinate, too little room
     ∷ case 33 three (0 ∷ 1 ∷ 0 ∷ []) 1 6 14 9 (2 ∷ []) (sevens 1) (sevens 6) (replicate 14 0)
     ∷ case 33 three (0 ∷ 1 ∷ 0 ∷ []) 2 5 15 9 (2 ∷ []) (sevens 2) (sevens 5) (replicate 14 0 ++ (7 ∷ []))
@@ -69,6 +68,6 @@ asked k =
     case (k .points) (k .cells) (k .crossing) (k .numbers) (k .centroids) (k .work) (numberOf a) (valuesOf a)
     (numbersAfter a (k .cells) (k .crossing) o) (centroidsAfter a P (k .cells) (k .crossing) z) (workAfter a P (k .cells) w)
 
-worked : map asked table ≡ table
+examples : map asked table ≡ table
 unfolding ofBits toBits add div first unless lengthRows allBelow among run those any shares touched takenOver addCell labels labelAt pointOf cornersOf sizeRows crossedRows isHighest representativesOf centroidBits centroidsOf listedOf representedOf
-worked = refl
+examples = refl
