@@ -30,7 +30,8 @@ impl fmt::Display for StlError {
                 let right = HEAD as u64 + RECORD as u64 * u64::from(*announced);
                 write!(
                     f,
-                    "a binary STL file of {announced} triangles has {right} bytes, this one has {bytes}"
+                    "neither a text STL file nor a whole binary one: {announced} triangles take {right} bytes, \
+                     this one has {bytes}"
                 )
             }
             StlError::Text { line, expected } => write!(f, "line {line}: expected {expected}"),

@@ -83,6 +83,7 @@ fn a_part_that_cannot_be_covered_leaves_nothing_behind() {
         ("ball.stl --cell 1e-20 -o old.mesh", "refusal 4 of plan"),
         ("ball.stl --cell 1e38 -o old.mesh", "refusal 4 of plan"),
         ("open.stl --cell 4 -o new.mesh", "open or turns over"),
+        ("short.stl --cell 4 -o new.mesh", "nor a whole binary one: "),
         ("short.stl --cell 4 -o new.mesh", "this one has 5000"),
         ("text.stl --cell 4 -o new.mesh", "line 4: expected three numbers"),
         ("empty.stl --cell 4 -o new.mesh", "not an STL file"),
