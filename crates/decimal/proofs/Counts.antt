@@ -1,22 +1,21 @@
 -- Laws of a count in a file. Assumes nothing.
 use mathlib.Core.Path.{_≡_, refl, sym, ap, _∙_}
 use mathlib.Core.Logic.{_≢_, _⊎_, inl, inr}
-use mathlib.Core.Bool.{Bool, true, false, cond}
+use mathlib.Core.Bool.{true, false}
 use mathlib.Core.List.{List, [], _∷_, _++_, append-nil}
 use Prim.Native.Nat.{ℕ, zero, suc, _+_, _-_, _*_, _/_, _%_, _^_, _≤_, _<_}
 use native.Mathlib.Nat.{add-zero, not-suc-le-zero, pow-le-pow-right}
 use native.Mathlib.Numerals.{add-one}
 use native.Mathlib.Omega.{arith}
-use borrow.Author.Tests.{lt-ltb, le-ltb, le-leb, lt-leb, eq-eqb, ne-eqb}
-use lib.Dec.{eqb, ltb, leb}
-use lib.ListN.{length, getD, drop, length-append, List·getD-eq-default}
+use borrow.Author.Tests.{lt-ltb, le-ltb, le-leb, lt-leb, ne-eqb}
+use lib.ListN.{length, getD, drop, List·getD-eq-default}
 use lib.Seq.{drop-cons, getD-drop, append-snoc}
 use Rattle.lists.proofs.Cases.{ltOr, eqOr}
 use Rattle.decimal.specs.Digits.{digitsBy, digits, isDigit, moreAt, countAt, onCount}
 use Rattle.decimal.specs.declared.Counted.{Counted}
 use Rattle.decimal.specs.declared.Counted.the-variants.{Read, Stopped}
 use Rattle.decimal.proofs.Texts.{drop-on, in-file}
-use Rattle.decimal.proofs.Decimals.{pow-ten, by-low, by-high, digits-low, digits-more, digits-few, digits-one}
+use Rattle.decimal.proofs.Decimals.{pow-ten, by-low, by-high, digits-low, digits-more, digits-few}
 
 pub is-digit : (x : ℕ) → 48 ≤ x → x ≤ 57 → isDigit x ≡ true
 is-digit x l h = rw (le-leb 48 x l, le-leb x 57 h)
@@ -284,11 +283,6 @@ count-there v rest b at h e n = by-size (eqOr v 0)
         pos : (0 < v) ⊎ (v ≤ 0) → 0 < v
         pos (inl l) = l
         pos (inr l) = absurd (z (omega arith))
-
-pub count-within : (b : List ℕ) (at v next : ℕ) → countAt b at ≡ Read v next → next ≤ length b
-count-within b at v next e =
-    let h : CountHere b at v next = count-found b at v next e in
-    omega (arith, simp (length-append, lib.ListN.length-drop) at (ap length (h .bytes)), h .long, digits-one v)
 
 -- ---- what follows a count
 

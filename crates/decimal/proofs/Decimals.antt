@@ -1,16 +1,12 @@
 -- Laws of decimal digits. Assumes nothing.
 use mathlib.Core.Path.{_≡_, refl, sym, ap, _∙_}
-use mathlib.Core.Logic.{_≢_, _⊎_, inl, inr}
-use mathlib.Core.Bool.{Bool, true, false, cond}
-use mathlib.Core.List.{List, [], _∷_, _++_, append-assoc, append-nil}
-use Prim.Native.Nat.{ℕ, zero, suc, _+_, _-_, _*_, _/_, _%_, _^_, _≤_, _<_}
-use native.Mathlib.Nat.{add-zero, pow-succ', one-le-pow, pow-le-pow-right}
-use native.Mathlib.Numerals.{add-one}
+use mathlib.Core.Logic.{_⊎_, inl, inr}
+use mathlib.Core.List.{List, [], _∷_, _++_}
+use Prim.Native.Nat.{ℕ, zero, suc, _+_, _*_, _/_, _%_, _^_, _≤_, _<_}
+use native.Mathlib.Nat.{pow-succ', one-le-pow, pow-le-pow-right}
 use native.Mathlib.Omega.{arith}
 use borrow.Author.Tests.{lt-ltb, le-ltb}
-use lib.Dec.{eqb, ltb}
-use lib.ListN.{length, getD, set, drop, length-append, length-set}
-use lib.Seq.{sets, length-sets}
+use lib.ListN.{length, set, length-append}
 use Rattle.lists.proofs.Cases.{ltOr}
 use Rattle.lists.specs.Runs.{Stored}
 use Rattle.lists.proofs.Parts.{sets-append}

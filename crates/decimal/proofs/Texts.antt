@@ -2,15 +2,15 @@
 use mathlib.Core.Path.{_≡_, refl, sym, ap, _∙_}
 use mathlib.Core.Logic.{_≢_, _⊎_, inl, inr}
 use mathlib.Core.Bool.{Bool, true, false, cond}
-use mathlib.Core.List.{List, [], _∷_, _++_, append-assoc, append-nil}
-use Prim.Native.Nat.{ℕ, zero, suc, _+_, _-_, _*_, _/_, _≤_, _<_}
+use mathlib.Core.List.{List, [], _∷_, _++_}
+use Prim.Native.Nat.{ℕ, suc, _+_, _/_, _≤_, _<_}
 use native.Mathlib.Nat.{add-zero}
 use native.Mathlib.Numerals.{add-one}
 use native.Mathlib.Omega.{arith}
 use borrow.Author.Tests.{lt-ltb, le-ltb, eq-eqb, ne-eqb}
-use lib.Dec.{eqb, ltb}
-use lib.ListN.{length, getD, set, take, drop, length-append, length-set}
-use lib.Seq.{sets, length-sets, sets-eq, take-at, length-take-le, drop-cons, drop-drop, drop-append-seam}
+use lib.Dec.{ltb}
+use lib.ListN.{length, getD, set, take, drop, length-set}
+use lib.Seq.{sets, length-sets, sets-eq, take-at, drop-cons, drop-drop, drop-append-seam}
 use Rattle.lists.specs.Runs.{Stored}
 use Rattle.lists.proofs.Cases.{ltOr, eqOr}
 use Rattle.decimal.specs.Text.{textAt, onPlace}
@@ -79,12 +79,6 @@ text-there (x ∷ t) rest b at e =
     let n : at + length (x ∷ t) ≡ suc at + length t = omega arith in
     let d : drop (suc at) b ≡ t ++ rest = ap (λ (k : ℕ). drop k b) (sym (add-one at)) ∙ drop-on (x ∷ []) (t ++ rest) b at e in
     rw (lt-ltb at (length b) (i .0), eq-eqb _ _ (i .1), n) (text-there t rest b (suc at) d)
-
--- a part that is there does not end behind the file
-pub text-within : (t b : List ℕ) (at next : ℕ) → textAt t b at ≡ At next → at ≤ length b → next ≤ length b
-text-within t b at next e h =
-    let f : Here t b at next = text-found t b at next e in
-    omega (arith, simp (length-append, lib.ListN.length-drop) at (ap length (f .bytes)), f .long)
 
 -- ---- the loop that stores a text: what is still to be stored makes up the whole
 

@@ -1,16 +1,15 @@
 -- The parts of the file stored one behind the other, and the ways out of `write_vtk`. Assumes nothing.
 use mathlib.Core.Path.{_≡_, refl, sym, ap, ap₂, _∙_}
 use mathlib.Core.Logic.{_≢_}
-use mathlib.Core.Bool.{Bool, true, false, cond}
+use mathlib.Core.Bool.{true}
 use mathlib.Core.List.{List, [], _∷_, _++_, append-assoc}
 use Prim.Native.Nat.{ℕ, suc, _+_, _-_, _*_, _/_, _%_, _≤_, _<_}
 use native.Mathlib.Omega.{arith}
 use borrow.Author.Tests.{lt-ltb, le-ltb, eq-eqb, ne-eqb, eqb-true, not-false}
-use lib.Dec.{eqb, ltb}
 use lib.ListN.{length, getD, take, drop, replicate, length-append, length-replicate, getD-replicate}
 use lib.Seq.{sets, length-sets, length-take-le, drop-cons}
-use Rattle.lists.specs.Ladder.{first, proper, unless}
-use Rattle.lists.specs.Tables.{pointsOf, cellsOf, lengthRows, listOf}
+use Rattle.lists.specs.Ladder.{first, proper}
+use Rattle.lists.specs.Tables.{pointsOf, cellsOf, lengthRows}
 use Rattle.lists.specs.Runs.{Stored}
 use Rattle.lists.proofs.Rows.{clear, unless-none, unless-some}
 use Rattle.lists.proofs.Lent.{as-lent, as-new}
@@ -18,15 +17,14 @@ use Rattle.lists.proofs.Listing.{list-at, length-list}
 use Rattle.lists.proofs.Parts.{sets-append, sets-whole}
 use Rattle.words.specs.Words.{bytes4, bytesOf}
 use Rattle.words.proofs.Words.{length-bytes, bytes-append, Writing, writing-start, writing-on, writing-done}
-use Rattle.components.specs.Numbers.{componentNumbers, Fits}
+use Rattle.components.specs.Numbers.{componentNumbers}
 use Rattle.components.specs.Step.{meshRows}
 use Rattle.components.proofs.Steps.{fitting, asks}
 use Rattle.file_numbers.proofs.Comparing.{length-components}
 use Rattle.decimal.specs.Digits.{digits}
 use Rattle.vtk_layout.specs.Layout.{versionLine, ourTitle, feed, datasetLines, floatLine, cellsWord, space, typesWord, dataWord, scalarLines, written}
 use Rattle.vtk_layout.specs.File.{ledWord, led, typesOf, vtkFile}
-use Rattle.vtk_file.specs.Write.{bytesOfCounts, vtkBytes, ledCell, writtenOf, WriteDone, Storable, Placed}
-use Rattle.vtk_file.specs.declared.Written.{Written}
+use Rattle.vtk_file.specs.Write.{vtkBytes, ledCell, writtenOf, WriteDone, Storable, Placed}
 use Rattle.vtk_file.specs.declared.Written.the-variants.{Done, Refused, Short}
 
 -- ---- the cells led by fours, and their types

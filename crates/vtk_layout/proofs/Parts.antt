@@ -1,23 +1,21 @@
 -- Laws of the parts of the viewer's file as the code reads them. Assumes nothing.
-use mathlib.Core.Path.{_≡_, refl, sym, ap, _∙_}
+use mathlib.Core.Path.{_≡_, sym, ap, _∙_}
 use mathlib.Core.Logic.{_≢_, _⊎_, inl, inr}
-use mathlib.Core.Bool.{Bool, true, false, cond, not, _&&_}
-use mathlib.Core.List.{List, [], _∷_, _++_}
-use Prim.Native.Nat.{ℕ, zero, suc, _+_, _-_, _*_, _≤_, _<_}
-use native.Mathlib.Nat.{add-zero, not-suc-le-zero}
+use mathlib.Core.Bool.{true, cond}
+use mathlib.Core.List.{List, _∷_}
+use Prim.Native.Nat.{ℕ, zero, suc, _+_, _-_, _≤_, _<_}
+use native.Mathlib.Nat.{not-suc-le-zero}
 use native.Mathlib.Numerals.{add-one}
 use native.Mathlib.Omega.{arith}
 use borrow.Author.Tests.{lt-ltb, le-ltb, eq-eqb, ne-eqb}
-use lib.Dec.{eqb, ltb}
-use lib.ListN.{length, getD, drop}
+use lib.Dec.{ltb}
+use lib.ListN.{length, getD}
 use Rattle.decimal.specs.Text.{textAt}
 use Rattle.decimal.specs.Digits.{numberAt, countAt}
-use Rattle.decimal.specs.declared.Counted.{Counted}
 use Rattle.decimal.specs.declared.Counted.the-variants as counted
 use Rattle.decimal.proofs.Texts.{either-way, never-at}
 use Rattle.decimal.proofs.Counts.{count-found, never-read}
 use Rattle.lists.proofs.Cases.{ltOr}
-use Rattle.decimal.specs.declared.Place.{Place}
 use Rattle.decimal.specs.declared.Place.the-variants.{At, Stopped}
 use Rattle.vtk_layout.specs.Layout.{feed, versionLine, datasetLines, titleAt, blockAt, lineAt, sectionAt, countedAt, headOf, noFeed}
 

@@ -1,21 +1,19 @@
 -- A file whose layout is found has exactly this layout. Assumes nothing.
 use mathlib.Core.Path.{_≡_, refl, sym, ap, ap₂, subst, _∙_}
 use mathlib.Core.Logic.{_≢_, _⊎_, inl, inr}
-use mathlib.Core.Bool.{Bool, true, false, cond, not, _&&_}
+use mathlib.Core.Bool.{true, cond}
 use mathlib.Core.List.{List, [], _∷_, _++_}
-use Prim.Native.Nat.{ℕ, zero, suc, _+_, _-_, _*_, _≤_, _<_}
+use Prim.Native.Nat.{ℕ, zero, suc, _+_, _*_, _≤_, _<_}
 use native.Mathlib.Numerals.{add-one}
 use native.Mathlib.Omega.{arith}
-use borrow.Author.Tests.{lt-ltb, le-ltb, le-leb, eq-eqb, ne-eqb}
-use lib.Dec.{eqb, ltb, leb}
+use borrow.Author.Tests.{lt-ltb, le-leb}
+use lib.Dec.{ltb}
 use lib.ListN.{length, getD, take, drop, take-append-drop, drop-of-length-le}
 use lib.Seq.{drop-cons, drop-drop}
 use Rattle.lists.proofs.Cases.{ltOr, eqOr}
-use Rattle.decimal.specs.Text.{textAt, onPlace}
-use Rattle.decimal.specs.Digits.{digits, numberAt, countAt, onCount}
-use Rattle.decimal.specs.declared.Place.{Place}
+use Rattle.decimal.specs.Text.{textAt}
+use Rattle.decimal.specs.Digits.{digits, numberAt, countAt}
 use Rattle.decimal.specs.declared.Place.the-variants.{At, Stopped}
-use Rattle.decimal.specs.declared.Counted.{Counted}
 use Rattle.decimal.specs.declared.Counted.the-variants as counted
 use Rattle.decimal.proofs.Texts.{text-found, number-found, either-way, never-at}
 use Rattle.decimal.proofs.Counts.{count-found, never-read, count-either-way}

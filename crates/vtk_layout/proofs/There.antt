@@ -1,19 +1,18 @@
 -- The layout of a file that is written is found. Assumes nothing.
-use mathlib.Core.Path.{_≡_, refl, sym, ap, subst, _∙_}
-use mathlib.Core.Logic.{_≢_}
-use mathlib.Core.Bool.{Bool, true, false, cond, not, _&&_}
+use mathlib.Core.Path.{_≡_, refl, sym, ap, _∙_}
+use mathlib.Core.Bool.{true, false, not}
 use mathlib.Core.List.{List, [], _∷_, _++_}
-use Prim.Native.Nat.{ℕ, zero, suc, _+_, _-_, _*_, _≤_, _<_}
-use native.Mathlib.Nat.{add-zero, not-suc-le-zero}
+use Prim.Native.Nat.{ℕ, zero, suc, _+_, _*_, _≤_, _<_}
+use native.Mathlib.Nat.{not-suc-le-zero}
 use native.Mathlib.Numerals.{add-one}
 use native.Mathlib.Omega.{arith}
-use borrow.Author.Tests.{lt-ltb, le-ltb, leb-true, eqb-false, not-true, eq-eqb, ne-eqb}
-use lib.Dec.{eqb, ltb, leb}
+use borrow.Author.Tests.{le-ltb, leb-true, eqb-false, not-true}
+use lib.Dec.{eqb, leb}
 use lib.ListN.{length, getD, take, drop, length-append, length-drop}
 use lib.Seq.{take-at}
 use Rattle.lists.proofs.Rows.{and-left, and-right}
-use Rattle.decimal.specs.Text.{textAt, onPlace}
-use Rattle.decimal.specs.Digits.{digits, isDigit, numberAt, countAt, onCount}
+use Rattle.decimal.specs.Text.{textAt}
+use Rattle.decimal.specs.Digits.{digits, isDigit}
 use Rattle.decimal.specs.declared.Place.{Place}
 use Rattle.decimal.specs.declared.Place.the-variants.{At, Stopped}
 use Rattle.decimal.specs.declared.Counted.{Counted}
@@ -21,8 +20,7 @@ use Rattle.decimal.specs.declared.Counted.the-variants as counted
 use Rattle.decimal.proofs.Texts.{text-there, number-low, drop-on, in-file, went}
 use Rattle.decimal.proofs.Counts.{count-there, count-went}
 use Rattle.vtk_layout.proofs.Parts.{title-feed, title-next, block-there}
-use Rattle.vtk_layout.specs.Layout.{feed, space, versionLine, datasetLines, floatLine, cellsWord, typesWord, dataWord, scalarLines, noFeed, isTitle, written, titleAt, blockAt, lineAt, sectionAt, countedAt, headOf, endAt, numbersOn, typesOn, cellsOn, pointsOn, locatedOf}
-use Rattle.vtk_layout.specs.declared.Located.{Located}
+use Rattle.vtk_layout.specs.Layout.{feed, space, versionLine, datasetLines, floatLine, cellsWord, typesWord, dataWord, scalarLines, noFeed, isTitle, written, titleAt, lineAt, sectionAt, countedAt, headOf, endAt, numbersOn, typesOn, cellsOn, pointsOn, locatedOf}
 use Rattle.vtk_layout.specs.declared.Located.the-variants as located
 
 -- a part that is there, and what is left behind it

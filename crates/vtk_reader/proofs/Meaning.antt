@@ -1,5 +1,5 @@
 -- What the definition of `read_vtk` says. Assumes nothing.
-use mathlib.Core.Path.{_≡_, refl, sym, ap, ap₂, subst, _∙_}
+use mathlib.Core.Path.{_≡_, refl, sym, ap, ap₂, _∙_}
 use mathlib.Core.Logic.{_⊎_, inl, inr, _≢_}
 use mathlib.Core.Bool.{Bool, true, false, cond, not, _&&_, _||_}
 use mathlib.Core.List.{List, [], _∷_, _++_}
@@ -9,7 +9,7 @@ use borrow.Author.Tests.{le-ltb, eq-eqb, ne-eqb, eqb-false, not-true}
 use lib.Dec.{eqb, ltb, leb}
 use lib.ListN.{length, getD, take, drop, replicate, length-append, length-replicate, getD-replicate, take-append-drop}
 use lib.Seq.{drop-drop, drop-append-seam, length-take-le, take-at}
-use Rattle.lists.specs.Ladder.{Row, _when_, first, unless}
+use Rattle.lists.specs.Ladder.{Row, _when_, first}
 use Rattle.lists.specs.Tables.{most, pointsOf, cellsOf, allBelow, listOf, same, front, zeroed, among, Determined}
 use Rattle.lists.proofs.Rows.{and-left, and-right, number-rows, unless-none, unless-some}
 use Rattle.lists.proofs.Cases.{eqOr}

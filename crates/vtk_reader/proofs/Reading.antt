@@ -1,6 +1,6 @@
 -- The ways out of `read_vtk` and of its parts. Assumes nothing.
 use mathlib.Core.Path.{_≡_, refl, sym, ap, ap₂, subst, _∙_}
-use mathlib.Core.Logic.{_⊎_, inl, inr, _≢_}
+use mathlib.Core.Logic.{_≢_}
 use mathlib.Core.Bool.{Bool, true, false, cond, not, _&&_, and-assoc, and-true, true≢false}
 use mathlib.Core.List.{List, [], _∷_, _++_}
 use Prim.Native.Nat.{ℕ, suc, _+_, _*_, _/_, _≤_, _<_}
@@ -9,15 +9,15 @@ use borrow.Author.Tests.{lt-ltb, le-ltb, ne-eqb, ltb-false, not-false}
 use lib.Dec.{ltb}
 use lib.ListN.{length, getD, set, take, drop, replicate, length-replicate, getD-replicate}
 use lib.Seq.{length-take-le, drop-cons}
-use Rattle.lists.specs.Ladder.{first, proper, under, unless}
-use Rattle.lists.specs.Tables.{most, cellsOf, allBelow, listOf, same, allFrom, on, among}
-use Rattle.lists.proofs.Rows.{clear, unless-none, unless-some, first-under}
+use Rattle.lists.specs.Ladder.{first, proper}
+use Rattle.lists.specs.Tables.{most, cellsOf, allBelow, same, allFrom, on, among}
+use Rattle.lists.proofs.Rows.{clear, unless-none, unless-some}
 use Rattle.lists.proofs.Lent.{below-at, below-end, as-lent, as-new, as-lent-below}
 use Rattle.lists.proofs.Listing.{length-list, list-at, same-on, same-off, same-end}
 use Rattle.words.specs.Words.{wordAt, placeOf, wordsAt, spanOf}
 use Rattle.words.proofs.Words.{length-words, words-at, Reading, reading-on}
 use Rattle.links.specs.Vertices.{Cells}
-use Rattle.components.specs.Numbers.{componentNumbers, Fits}
+use Rattle.components.specs.Numbers.{Fits}
 use Rattle.file_numbers.specs.Stored.{Told}
 use Rattle.file_numbers.proofs.Comparing.{cells-in}
 use Rattle.mesh_file.specs.Read.{shortOf}
@@ -27,7 +27,7 @@ use Rattle.mesh_file.specs.declared.Loaded.the-variants.{Done, Refused, Short}
 use Rattle.vtk_layout.specs.Layout.{Laid}
 use Rattle.vtk_layout.specs.declared.Located.{Located}
 use Rattle.vtk_layout.specs.declared.Located.the-variants as located
-use Rattle.vtk_reader.specs.Read.{stride, marksAt, pointsIn, cellsIn, rightNumbers, bodyRows, loadedBy, pointsBy, cellsBy, workBy, LoadDone, cellAt, cellGot, cellRows}
+use Rattle.vtk_reader.specs.Read.{stride, marksAt, pointsIn, cellsIn, bodyRows, loadedBy, pointsBy, cellsBy, workBy, LoadDone, cellAt, cellGot, cellRows}
 
 -- ---- the loops that compare words with one value
 

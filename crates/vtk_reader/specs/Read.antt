@@ -4,7 +4,7 @@ use mathlib.Core.Path.{_≡_}
 use mathlib.Core.Bool.{Bool, true, false, cond, not}
 use mathlib.Core.List.{List, [], _∷_}
 use Prim.Native.Nat.{ℕ, _+_, _*_, _/_}
-use lib.Dec.{eqb, ltb}
+use lib.Dec.{ltb}
 use lib.ListN.{length, set, replicate}
 use Rattle.lists.specs.Ladder.{Row, _when_, first, unless}
 use Rattle.lists.specs.Tables.{most, allBelow, listOf, same, front, zeroed, on}

@@ -1,5 +1,4 @@
-use mathlib.Core.Path.{_≡_, refl, sym, _∙_}
-use native.Mathlib.Omega.{arith}
+use mathlib.Core.Path.{sym, _∙_}
 use borrow.Author.Needs.{needs}
 use Rattle.decimal.proofs.Counts.{not-low, not-high, count-ends, count-off, count-zero, count-more}
 use Rattle.decimal.proofs.count.Statement.{statement}

@@ -1,5 +1,4 @@
-use mathlib.Core.Path.{_≡_, refl, sym, _∙_}
-use native.Mathlib.Omega.{arith}
+use mathlib.Core.Path.{sym, _∙_}
 use borrow.Author.Needs.{needs}
 use Rattle.decimal.proofs.Texts.{number-low, number-stops, number-ends, number-over}
 use Rattle.decimal.proofs.number.Statement.{statement}

@@ -1,9 +1,8 @@
 use borrow.Author.Needs.{needs}
-use mathlib.Core.Path.{_≡_, refl}
 use mathlib.Core.Bool.{true}
 use native.Mathlib.Omega.{arith}
 use Prim.Native.Nat.{ℕ, _-_}
-use lib.ListN.{length, length-replicate}
+use lib.ListN.{length-replicate}
 use Rattle.words.proofs.Words.{Writing, writing-start, writing-on, writing-done}
 use Rattle.vtk_layout.specs.File.{typesOf}
 use Rattle.vtk_file.proofs.Writing.{type-at}

@@ -1,5 +1,4 @@
-use mathlib.Core.Path.{_≡_, refl, sym, _∙_}
-use native.Mathlib.Omega.{arith}
+use mathlib.Core.Path.{sym, _∙_}
 use lib.Seq.{length-take-le}
 use Rattle.components.proofs.Steps.{fitting}
 use Rattle.vtk_file.proofs.Writing.{refused, short, storable, done}

@@ -1,12 +1,8 @@
-use mathlib.Core.Path.{_≡_, refl, sym, ap, _∙_}
-use native.Mathlib.Omega.{arith}
-use Prim.Native.Nat.{ℕ, _+_, _*_}
-use denote.Ref.{now}
+use mathlib.Core.Path.{sym, _∙_}
 use borrow.Author.Needs.{needs}
-use Rattle.decimal.proofs.Texts.{onwards, halted}
 use Rattle.decimal.proofs.Counts.{count-onwards, count-halted}
-use Rattle.vtk_layout.proofs.Parts.{title-on, title-feed, title-ends, title-last, block-ends, block-there, line-in, section-in, counted-small, head-small, past, not-past}
-use Rattle.vtk_layout.specs.Layout.{feed, space, versionLine, datasetLines, floatLine, cellsWord, typesWord, dataWord, scalarLines, titleAt, blockAt, lineAt, sectionAt, countedAt, headOf, endAt, numbersOn, typesOn, cellsOn, pointsOn, locatedOf}
+use Rattle.vtk_layout.proofs.Parts.{head-small}
+use Rattle.vtk_layout.specs.Layout.{locatedOf}
 use Rattle.vtk_layout.proofs.locate.Statement.{statement}
 use Rattle.vtk_layout.proofs.locate.Tie as tie
 use Rattle.vtk_layout.proofs.locate.Reads as reads

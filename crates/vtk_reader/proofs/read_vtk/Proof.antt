@@ -1,9 +1,5 @@
 -- `vtk_reader::read_vtk` meets its contract. Assumes nothing.
-use mathlib.Core.Path.{_≡_, refl, sym, ap, _∙_}
-use Prim.Native.Nat.{ℕ, _+_, _*_, _-_}
-use native.Mathlib.Omega.{arith}
-use borrow.Author.Tests.{not-true, not-false}
-use denote.Ref.{now}
+use mathlib.Core.Path.{sym, _∙_}
 use borrow.Author.Needs.{needs}
 use Rattle.vtk_layout.proofs.Sound.{located-laid}
 use Rattle.vtk_reader.proofs.Reading.{stopped, by-layout}

@@ -1,4 +1,4 @@
-use mathlib.Core.Path.{_≡_, sym, _∙_}
+use mathlib.Core.Path.{_∙_}
 use native.Mathlib.Omega.{arith}
 use Rattle.vtk_reader.proofs.Reading.{below-none, below-1, below-2, below-3, below-4}
 use borrow.Author.Needs.{needs}
