@@ -1,55 +1,34 @@
 -- What the definitions of `write_mesh` and `read_mesh` say. Assumes nothing.
-use mathlib.Core.Path.{_≡_, refl, sym, ap, ap₂, subst, subst₂, _∙_}
-use mathlib.Core.Logic.{_⊎_, inl, inr, _≢_, _↔_}
+use mathlib.Core.Path.{_≡_, refl, sym, ap, ap₂, _∙_}
+use mathlib.Core.Logic.{_⊎_, inl, inr, _≢_}
 use mathlib.Core.Bool.{Bool, true, false, cond, not, _||_}
-use mathlib.Core.List.{List, [], _∷_, _++_}
-use Prim.Native.Nat.{ℕ, suc, _+_, _*_, _/_, _%_, _≤_, _<_}
+use mathlib.Core.List.{List, [], _∷_}
+use Prim.Native.Nat.{ℕ, _+_, _*_, _/_, _%_, _≤_, _<_}
 use native.Mathlib.Omega.{arith}
-use borrow.Author.Tests.{lt-ltb, le-ltb, eqb-true, ltb-false, not-false}
-use lib.Dec.{eqb, ltb}
-use lib.ListN.{length, take, drop}
+use borrow.Author.Tests.{le-ltb, eqb-true, ltb-false, not-false}
+use lib.Dec.{ltb}
+use lib.ListN.{length, take}
 use lib.Seq.{take-at}
-use Rattle.lists.specs.Ladder.{Row, _when_, first, proper, rising, caused, lower, unless}
-use Rattle.lists.specs.Tables.{most, pointsOf, cellsOf, lengthRows, allBelow, front, on, Determined}
+use Rattle.lists.specs.Ladder.{Row, _when_, first, proper}
+use Rattle.lists.specs.Tables.{most, pointsOf, cellsOf, allBelow, front, on, Determined}
 use Rattle.lists.proofs.Rows.{clear, exactly, number-rows, unless-none, unless-some}
 use Rattle.lists.proofs.Cases.{eqOr}
 use Rattle.lists.proofs.Lent.{below-at, as-lent, as-new, determined}
 use Rattle.words.specs.Words.{wordAt, placeOf, wordsAt}
 use Rattle.words.proofs.Words.{length-words, words-at}
-use Rattle.components.specs.Numbers.{componentNumbers}
-use Rattle.components.specs.Step.{meshRows}
-use Rattle.components.proofs.Meaning.{mesh-proper}
-use Rattle.mesh_file.specs.File.{encode, endOf, cutAt, second, third, end, pointCount, cellCount, pointsIn, cellsIn}
-use Rattle.mesh_file.specs.Write.{bytesFor, writeRows, writtenNumber, writtenOf, fileAfter, WriteDone}
+use Rattle.mesh_file.specs.File.{encode, endOf, second, third, end, pointCount, cellCount, pointsIn, cellsIn}
+use Rattle.mesh_file.specs.Writer.{writeRows, writtenNumber, writtenOf, fileAfter}
+use Rattle.mesh_file.specs.Write.{bytesFor}
 use Rattle.mesh_file.specs.Read.{rightNumbers, readRows, sectionRows, fileRows, shortOf, loadedNumber, loadedOf, pointsAfter, cellsAfter, ReadDone}
-use Rattle.mesh_file.specs.declared.Written.{Written}
 use Rattle.mesh_file.specs.declared.Written.the-variants as written
 use Rattle.mesh_file.specs.declared.Loaded.{Loaded}
 use Rattle.mesh_file.specs.declared.Loaded.the-variants as loaded
-use Rattle.mesh_file.proofs.Sections.{Laid, Good, good, file-proper, uncut}
+use Rattle.mesh_file.proofs.Sections.{Good, good, file-proper, uncut}
+use Rattle.mesh_file.proofs.Writers.{write-number-is}
 use Rattle.mesh_file.proofs.Writing.{length-encode}
 use Rattle.mesh_file.proofs.RoundTrip.{Mesh, all-below, reads-points, counts-points, reads-cells, counts-cells, reads-right, encode-laid, bytes-are}
 
 -- ---- each refusal exactly when, in order
-
-module _ (P C o w : List ℕ) where
-  pub write-number-is : writtenNumber (writtenOf P C o w) ≡ first (writeRows P C o w)
-  unfolding writtenOf first meshRows lengthRows
-  write-number-is =
-      number-rows writtenNumber written.Refused _ (meshRows (length P) C (length w)) (9 when ltb (length o) (bytesFor P C) ∷ []) (mesh-proper (length P) C (length w)) (λ k. refl)
-      (last (ltb (length o) (bytesFor P C)))
-    where
-      last : (t : Bool) → writtenNumber (cond t (written.Short (bytesFor P C)) (written.Done (bytesFor P C))) ≡ cond t 9 0
-      last true = refl
-      last false = refl
-
-  write-rise : rising 1 (writeRows P C o w) ≡ true
-  unfolding rising
-  write-rise = refl
-
-  pub write-exactly : (k : ℕ) → 0 < k
-      → (writtenNumber (writtenOf P C o w) ≡ k) ↔ ((caused k (writeRows P C o w) ≡ true) × (lower k (writeRows P C o w) ≡ false))
-  write-exactly = exactly (writeRows P C o w) write-rise write-number-is
 
 module _ (b x y w : List ℕ) where
   -- the reader's numbers, in the order 11, 12, 4, 8, 9, 13
@@ -80,13 +59,7 @@ module _ (b x y w : List ℕ) where
   pub read-refused : loadedNumber (loadedOf b x y w) ≢ 0 → (pointsAfter b x y w ≡ x) × (cellsAfter b x y w ≡ y)
   read-refused d = (as-lent _ _ x d, as-lent _ _ y d)
 
-pub write-refused : (P C o w : List ℕ) → writtenNumber (writtenOf P C o w) ≢ 0 → fileAfter P C o w ≡ o
-write-refused P C o w d = as-lent _ _ o d
-
 -- ---- one outcome only
-
-pub write-one : (P C o w : List ℕ) → Determined (λ (z : Written × List ℕ × List ℕ). WriteDone P C o w (z .0) (z .1) (z .2))
-write-one P C o w = determined (λ z a i. (a .answer i, a .file i, a .work i))
 
 pub read-one : (b x y w : List ℕ) → Determined (λ (z : Loaded × List ℕ × List ℕ × List ℕ). ReadDone b x y w (z .0) (z .1) (z .2) (z .3))
 read-one b x y w = determined (λ z a i. (a .answer i, a .points i, a .cells i, a .work i))
@@ -151,12 +124,12 @@ files-differ P C P′ C′ m m′ e = (
   sym (reads-cells P C m) ∙ ap cellsIn e ∙ reads-cells P′ C′ m′,
 )
 
--- what the writer takes, of any bits, is a mesh; and on its answer the file's table starts with the file
-module _ (P C o w : List ℕ) (bits : allBelow 4294967296 P ≡ true) (z : writtenNumber (writtenOf P C o w) ≡ 0) where
+-- what a writer takes, of any bits, is a mesh
+module _ (n : ℕ) (P C o w : List ℕ) (bits : allBelow 4294967296 P ≡ true) (z : writtenNumber (writtenOf n P C o w) ≡ 0) where
   pub taken : Mesh P C
   unfolding first proper
   taken =
-      let h = clear (writeRows P C o w) refl (sym (write-number-is P C o w) ∙ z) in
+      let h = clear (writeRows n P C o w) refl (sym (write-number-is n P C o w) ∙ z) in
       let p : length P % 3 ≡ 0 = eqb-true _ _ (not-false _ (h 2)) in
       let c : length C % 4 ≡ 0 = eqb-true _ _ (not-false _ (h 3)) in
       record {
@@ -168,8 +141,12 @@ module _ (P C o w : List ℕ) (bits : allBelow 4294967296 P ≡ true) (z : writt
         bits = bits;
       }
 
-  pub file-front : take (bytesFor P C) (fileAfter P C o w) ≡ encode P C
-  file-front = rw z (ap (take (bytesFor P C)) (as-new [] (front (bytesFor P C) (encode P C) o) o) ∙ take-at (encode P C) _ (bytesFor P C) (length-encode P C (taken .points) (taken .cells)))
+-- on an answer of `write_mesh` the file's table starts with the file
+pub file-front : (P C o w : List ℕ) → allBelow 4294967296 P ≡ true → writtenNumber (writtenOf (bytesFor P C) P C o w) ≡ 0
+    → take (bytesFor P C) (fileAfter (bytesFor P C) (encode P C) P C o w) ≡ encode P C
+file-front P C o w bits z =
+    let m = taken (bytesFor P C) P C o w bits z in
+    rw z (ap (take (bytesFor P C)) (as-new [] (front (bytesFor P C) (encode P C) o) o) ∙ take-at (encode P C) _ (bytesFor P C) (length-encode P C (m .points) (m .cells)))
 
 -- ---- only what is written reads
 

@@ -5,11 +5,12 @@ ghost use lib.ListN.{length, replicate};
 ghost use lib.Seq.{sets};
 ghost use Rattle.lists.specs.Ladder.{first};
 ghost use Rattle.words.specs.Words.{wordAt};
-ghost use Rattle.mesh_file.specs.File.{section, countAt, endOf, cutAt, Standing};
-ghost use Rattle.mesh_file.specs.Write.{Placed, Storable, WriteDone};
+ghost use Rattle.mesh_file.specs.File.{section, encode, countAt, endOf, cutAt, Standing};
+ghost use Rattle.mesh_file.specs.Writer.{Placed, Storable};
+ghost use Rattle.mesh_file.specs.Write.{bytesFor, WriteDone};
 ghost use Rattle.mesh_file.specs.Read.{sectionRows, fileRows, shortOf, Sound, Matched, ReadDone};
 
-// The outcome of `write_mesh`: the bytes written; refused, with document 01's number; no room for so many bytes.
+// The outcome of a writer: the bytes written; refused, with document 01's number; no room for so many bytes.
 pub enum Written {
     Done(u64),
     Refused(u32),
@@ -34,8 +35,8 @@ fn put_section(table: &[u32], count: usize, file: &mut [u8], at: usize)
 
 // Fills a table of exactly its length with the file of a mesh.
 fn put_mesh(points: &[u32], cells: &[u32], file: &mut [u8], work: &mut [u32])
-    requires { ⌜ Storable (now points) (now cells) (now file) (now work) ⌝ }
-    ensures { λ _. ⌜ Placed (now (points .entry)) (now (cells .entry)) (now (file .exit)) (now (work .entry)) (now (work .exit)) ⌝ }
+    requires { ⌜ Storable (bytesFor (now points) (now cells)) (now points) (now cells) (now file) (now work) ⌝ }
+    ensures { λ _. ⌜ Placed (encode (now (points .entry)) (now (cells .entry))) (now (file .exit)) (now (work .entry)) (now (work .exit)) ⌝ }
 {
     let second = 4 + 4 * points.len();
     let third = second + 4 + 4 * cells.len();

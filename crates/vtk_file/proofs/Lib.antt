@@ -1,3 +1,2 @@
 -- Laws that the proofs of vtk_file share.
 pub mod Writing
-pub mod Meaning

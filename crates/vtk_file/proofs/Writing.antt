@@ -1,31 +1,27 @@
--- The parts of the file stored one behind the other, and the ways out of `write_vtk`. Assumes nothing.
+-- The parts of the file stored one behind the other. Assumes nothing.
 use mathlib.Core.Path.{_≡_, refl, sym, ap, ap₂, _∙_}
 use mathlib.Core.Logic.{_≢_}
 use mathlib.Core.Bool.{true}
 use mathlib.Core.List.{List, [], _∷_, _++_, append-assoc}
 use Prim.Native.Nat.{ℕ, suc, _+_, _-_, _*_, _/_, _%_, _≤_, _<_}
 use native.Mathlib.Omega.{arith}
-use borrow.Author.Tests.{lt-ltb, le-ltb, eq-eqb, ne-eqb, eqb-true, not-false}
-use lib.ListN.{length, getD, take, drop, replicate, length-append, length-replicate, getD-replicate}
-use lib.Seq.{sets, length-sets, length-take-le, drop-cons}
-use Rattle.lists.specs.Ladder.{first, proper}
-use Rattle.lists.specs.Tables.{pointsOf, cellsOf, lengthRows}
+use borrow.Author.Tests.{eq-eqb, ne-eqb}
+use lib.ListN.{length, getD, drop, replicate, length-append, length-replicate, getD-replicate}
+use lib.Seq.{sets, length-sets, drop-cons}
+use Rattle.lists.specs.Ladder.{first}
+use Rattle.lists.specs.Tables.{pointsOf, cellsOf}
 use Rattle.lists.specs.Runs.{Stored}
-use Rattle.lists.proofs.Rows.{clear, unless-none, unless-some}
-use Rattle.lists.proofs.Lent.{as-lent, as-new}
 use Rattle.lists.proofs.Listing.{list-at, length-list}
 use Rattle.lists.proofs.Parts.{sets-append, sets-whole}
 use Rattle.words.specs.Words.{bytes4, bytesOf}
 use Rattle.words.proofs.Words.{length-bytes, bytes-append, Writing, writing-start, writing-on, writing-done}
 use Rattle.components.specs.Numbers.{componentNumbers}
-use Rattle.components.specs.Step.{meshRows}
-use Rattle.components.proofs.Steps.{fitting, asks}
 use Rattle.file_numbers.proofs.Comparing.{length-components}
 use Rattle.decimal.specs.Digits.{digits}
 use Rattle.vtk_layout.specs.Layout.{versionLine, ourTitle, feed, datasetLines, floatLine, cellsWord, space, typesWord, dataWord, scalarLines, written}
 use Rattle.vtk_layout.specs.File.{ledWord, led, typesOf, vtkFile}
-use Rattle.vtk_file.specs.Write.{vtkBytes, ledCell, writtenOf, WriteDone, Storable, Placed}
-use Rattle.vtk_file.specs.declared.Written.the-variants.{Done, Refused, Short}
+use Rattle.mesh_file.specs.Writer.{Storable, Placed}
+use Rattle.vtk_file.specs.Write.{vtkBytes, ledCell}
 
 -- ---- the cells led by fours, and their types
 
@@ -211,13 +207,13 @@ module _ (P C : List ℕ) where
             last,
           ))
 
-  pub mesh-placed : (o w : List ℕ) {o1 o2 o3 o4 o5 o6 o7 o8 o9 o10 w′ : List ℕ} {a b c d e f : ℕ} → Storable P C o w
+  pub mesh-placed : (o w : List ℕ) {o1 o2 o3 o4 o5 o6 o7 o8 o9 o10 w′ : List ℕ} {a b c d e f : ℕ} → Storable (vtkBytes P C) P C o w
       → Stored o 0 (headLines ++ (digits p ++ floatLine)) a o1 → o2 ≡ sets o1 a (bytesOf true P)
       → Stored o2 (a + 12 * p) (cellsWord ++ (digits n ++ space)) b o3 → Stored o3 b ([] ++ (digits (5 * n) ++ feed)) c o4
       → o5 ≡ sets o4 c (bytesOf true (led C)) → Stored o5 (c + 20 * n) (typesWord ++ (digits n ++ feed)) d o6
       → o7 ≡ sets o6 d (bytesOf true (typesOf n)) → Stored o7 (d + 4 * n) (dataWord ++ (digits n ++ scalarLines)) e o8
       → o9 ≡ sets o8 e (bytesOf true (componentNumbers C n)) → Stored o9 (e + 4 * n) feed f o10
-      → w′ ≡ replicate (length w) 0 → Placed P C o10 w w′
+      → w′ ≡ replicate (length w) 0 → Placed (vtkFile ourTitle P C) o10 w w′
   mesh-placed o w {a = a} {b = b} {c = c} {d = d} {e = e} {f = f} h e1 e2 e3 e4 e5 e6 e7 e8 e9 e10 ew =
       let k2 = stored-then e1 (block a (a + 12 * p) P e2 (omega (arith, h .whole))) in
       let k4 = stored-then k2 (stored-then e3 e4) in
@@ -233,46 +229,3 @@ module _ (P C : List ℕ) where
             ∙ sets-whole (vtkFile ourTitle P C) o (length-file (h .whole) ∙ sym (h .long));
         zero = ew;
       }
-
--- ---- the ways out
-
-module _ (P C o w : List ℕ) where
-  pub refused : {r : ℕ} → r ≡ first (meshRows (length P) C (length w)) → r ≢ 0 → WriteDone P C o w (Refused r) o w
-  unfolding writtenOf
-  refused {r} e d =
-      let a : writtenOf P C o w ≡ Refused r = rw (← e) (unless-some r Refused _ d) in
-      record { answer = sym a; file = rw a (sym (as-lent r _ o d)); work = rw a (sym (as-lent r _ w d)) }
-
-  module _ (z : first (meshRows (length P) C (length w)) ≡ 0) where
-    pub short : {n : ℕ} → n ≡ vtkBytes P C → length o < n → WriteDone P C o w (Short n) o w
-    unfolding writtenOf
-    short {n} e h =
-        let a : writtenOf P C o w ≡ Short n = unless-none _ Refused _ z ∙ rw (← e, lt-ltb _ _ h) refl in
-        record { answer = sym a; file = rw a (sym (as-lent 9 _ o (λ q. omega arith))); work = rw a (sym (as-lent 9 _ w (λ q. omega arith))) }
-
-    whole-points : length P ≡ 3 * pointsOf P
-    unfolding meshRows lengthRows first proper
-    whole-points =
-        let h = clear (meshRows (length P) C (length w)) refl z in
-        let q : length P % 3 ≡ 0 = eqb-true _ _ (not-false _ (h 2)) in
-        omega arith
-
-    -- the parts that are lent on
-    pub storable : {n : ℕ} → n ≡ vtkBytes P C → n ≤ length o → Storable P C (take n o) (take (2 * pointsOf P) w)
-    storable {n} e h =
-        let f = fitting (length P) C (length w) z in
-        record {
-          whole = whole-points;
-          fits = asks (length P) C w f;
-          points = length-take-le (2 * pointsOf P) w (f .work);
-          long = length-take-le n o h ∙ e;
-        }
-
-    pub done : {n : ℕ} {o′ w′ : List ℕ} → n ≡ vtkBytes P C → n ≤ length o → Placed P C o′ (take (2 * pointsOf P) w) w′
-        → WriteDone P C o w (Done n) (o′ ++ drop n o) (w′ ++ drop (2 * pointsOf P) w)
-    unfolding writtenOf
-    done {n} {o′} {w′} e h p =
-        let a : writtenOf P C o w ≡ Done n = unless-none _ Refused _ z ∙ rw (← e, le-ltb _ _ h) refl in
-        let f = fitting (length P) C (length w) z in
-        let zeros : w′ ≡ replicate (2 * pointsOf P) 0 = p .zero ∙ ap (λ (k : ℕ). replicate k 0) (length-take-le (2 * pointsOf P) w (f .work)) in
-        record { answer = sym a; file = rw (a, p .file, e) (sym (as-new [] _ o)); work = rw (a, zeros) (sym (as-new [] _ w)) }

@@ -5,15 +5,11 @@ ghost use Prim.Native.Nat.{ℕ, _+_, _*_, _/_, _≤_, _<_};
 ghost use lib.ListN.{length};
 ghost use lib.Seq.{sets};
 ghost use Rattle.words.specs.Words.{bytesOf};
-ghost use Rattle.vtk_layout.specs.File.{led, typesOf};
-ghost use Rattle.vtk_file.specs.Write.{bytesOfCounts, ledCell, Storable, Placed, WriteDone};
-
-// The outcome of `write_vtk`: the bytes written; refused, with document 01's number; no room for so many bytes.
-pub enum Written {
-    Done(u64),
-    Refused(u32),
-    Short(u64),
-}
+ghost use Rattle.mesh_file.specs.Writer.{Storable, Placed};
+ghost use Rattle.vtk_layout.specs.Layout.{ourTitle};
+ghost use Rattle.vtk_layout.specs.File.{led, typesOf, vtkFile};
+ghost use Rattle.vtk_file.specs.Write.{bytesOfCounts, vtkBytes, ledCell, WriteDone};
+use mesh_file::Written;
 
 // Stores cell i, led by a four.
 fn put_cell(cells: &[u32], i: usize, file: &mut [u8], at: usize)
@@ -55,8 +51,8 @@ fn put_types(n: usize, file: &mut [u8], at: usize)
 
 // Fills a table of exactly its length with the file of a mesh.
 fn put_mesh(points: &[u32], cells: &[u32], file: &mut [u8], work: &mut [u32])
-    requires { ⌜ Storable (now points) (now cells) (now file) (now work) ⌝ }
-    ensures { λ _. ⌜ Placed (now (points .entry)) (now (cells .entry)) (now (file .exit)) (now (work .entry)) (now (work .exit)) ⌝ }
+    requires { ⌜ Storable (vtkBytes (now points) (now cells)) (now points) (now cells) (now file) (now work) ⌝ }
+    ensures { λ _. ⌜ Placed (vtkFile ourTitle (now (points .entry)) (now (cells .entry))) (now (file .exit)) (now (work .entry)) (now (work .exit)) ⌝ }
 {
     let p = points.len() / 3;
     let n = cells.len() / 4;

@@ -1,7 +1,7 @@
 // Writes the viewer's file of a small mesh, reads it back, and reads what becomes of it when it is cut or changed. Prints how each is taken.
 use libc::STDOUT_FILENO;
 use mesh_file::Loaded;
-use vtk_file::Written;
+use mesh_file::Written;
 ghost use mathlib.Core.Path.{_≡_};
 ghost use Prim.Native.Nat.{_<_};
 

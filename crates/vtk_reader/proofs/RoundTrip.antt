@@ -1,47 +1,33 @@
 -- What `write_vtk` leaves, `read_vtk` reads as the same mesh, and what `read_vtk` reads, the writers take. From the contracts. Assumes nothing.
 use mathlib.Core.Path.{_≡_, refl, sym, ap, ap₂, subst, subst₂, _∙_}
 use mathlib.Core.Bool.{true}
-use mathlib.Core.List.{List, [], _∷_}
+use mathlib.Core.List.{List, []}
 use Prim.Native.Nat.{ℕ, _*_, _%_, _≤_}
 use native.Mathlib.Omega.{arith}
-use borrow.Author.Tests.{le-ltb, eq-eqb, ltb-false}
-use lib.Dec.{ltb}
-use lib.ListN.{length, take, replicate, length-replicate}
+use borrow.Author.Tests.{le-ltb, eq-eqb}
+use lib.ListN.{length, take}
 use lib.Seq.{take-at}
-use Rattle.lists.specs.Ladder.{_when_, first, proper}
+use Rattle.lists.specs.Ladder.{first}
 use Rattle.lists.specs.Tables.{most, pointsOf, cellsOf, lengthRows, allBelow, front, zeroed}
-use Rattle.lists.proofs.Rows.{clear, front-clear, unless-none}
 use Rattle.lists.proofs.Lent.{as-new}
 use Rattle.components.specs.Step.{meshRows}
-use Rattle.mesh_file.specs.Write as mesh
-use Rattle.mesh_file.specs.declared.Written.the-variants as mesh-written
+use Rattle.mesh_file.specs.Writer.{writtenNumber, writtenOf}
+use Rattle.mesh_file.specs.declared.Written.the-variants as written
 use Rattle.mesh_file.specs.declared.Loaded.{Loaded}
 use Rattle.mesh_file.specs.declared.Loaded.the-variants as loaded
 use Rattle.mesh_file.proofs.RoundTrip.{Mesh}
-use Rattle.mesh_file.proofs.Meaning.{Room}
-use Rattle.mesh_file.proofs.Meaning as mesh-meaning
+use Rattle.mesh_file.proofs.Writers.{answers, done-bytes}
+use Rattle.mesh_file.proofs.Meaning.{Room, taken}
 use Rattle.vtk_layout.specs.Layout.{ourTitle, noFeed, isTitle, locatedOf}
 use Rattle.vtk_layout.specs.File.{vtkFile}
-use Rattle.vtk_file.specs.Write.{vtkBytes, writeRows, writtenNumber, writtenOf, WriteDone}
-use Rattle.vtk_file.specs.declared.Written.the-variants as written
+use Rattle.vtk_file.specs.Write.{vtkBytes, WriteDone}
 use Rattle.vtk_file.proofs.Writing.{length-file}
-use Rattle.vtk_file.proofs.Meaning.{write-number-is}
 use Rattle.vtk_reader.specs.Read.{LoadDone}
 use Rattle.vtk_reader.proofs.Meaning.{ReadsAs, read-is-written, written-reads, written-points, written-cells, written-work}
 
 -- ---- a mesh, and what the writers take
 
--- with room, a writer answers where it does not refuse the mesh
-module _ (P C o w : List ℕ) (z : first (meshRows (length P) C (length w)) ≡ 0) where
-  vtk-answers : vtkBytes P C ≤ length o → writtenOf P C o w ≡ written.Done (vtkBytes P C)
-  unfolding writtenOf
-  vtk-answers h = unless-none _ written.Refused _ z ∙ rw (le-ltb _ _ h) refl
-
-  mesh-answers : mesh.bytesFor P C ≤ length o → mesh.writtenOf P C o w ≡ mesh-written.Done (mesh.bytesFor P C)
-  unfolding mesh.writtenOf
-  mesh-answers h = unless-none _ mesh-written.Refused _ z ∙ rw (le-ltb _ _ h) refl
-
--- both take every mesh
+-- with room for its file a writer takes every mesh
 module _ (P C o w : List ℕ) (m : Mesh P C) (v : 2 * pointsOf P ≤ length w) where
   unrefused : first (meshRows (length P) C (length w)) ≡ 0
   unfolding first meshRows lengthRows
@@ -50,30 +36,8 @@ module _ (P C o w : List ℕ) (m : Mesh P C) (v : 2 * pointsOf P ≤ length w) w
       let c : length C % 4 ≡ 0 = omega (arith, m .cells) in
       rw (le-ltb most (pointsOf P) (m .few-points), le-ltb most (cellsOf C) (m .few-cells), eq-eqb _ _ p, eq-eqb _ _ c, le-ltb (length w) (2 * pointsOf P) v, m .names) refl
 
-  pub vtk-takes : vtkBytes P C ≤ length o → writtenOf P C o w ≡ written.Done (vtkBytes P C)
-  vtk-takes = vtk-answers P C o w unrefused
-
-  pub mesh-takes : mesh.bytesFor P C ≤ length o → mesh.writtenOf P C o w ≡ mesh-written.Done (mesh.bytesFor P C)
-  mesh-takes = mesh-answers P C o w unrefused
-
--- and what `write_vtk` takes, of any bits, is a mesh: `write_mesh` takes it where there is room
-module _ (P C o w : List ℕ) (bits : allBelow 4294967296 P ≡ true) (z : writtenNumber (writtenOf P C o w) ≡ 0) where
-  none : first (writeRows P C o w) ≡ 0
-  none = sym (write-number-is P C o w) ∙ z
-
-  not-refused : first (meshRows (length P) C (length w)) ≡ 0
-  unfolding meshRows lengthRows
-  not-refused = front-clear (meshRows (length P) C (length w)) (9 when ltb (length o) (vtkBytes P C) ∷ []) none
-
-  pub taken : Mesh P C
-  taken =
-      let room : List ℕ = replicate (mesh.bytesFor P C) 0 in
-      let h : mesh.bytesFor P C ≤ length room = omega (arith, length-replicate {A = ℕ} (mesh.bytesFor P C) 0) in
-      mesh-meaning.taken P C room w bits (ap mesh.writtenNumber (mesh-answers P C room w not-refused h))
-
-  answered : writtenOf P C o w ≡ written.Done (vtkBytes P C)
-  unfolding proper
-  answered = vtk-answers P C o w not-refused (ltb-false _ _ (clear (writeRows P C o w) refl none 6))
+  pub takes : (n : ℕ) → n ≤ length o → writtenOf n P C o w ≡ written.Done n
+  takes n = answers n P C o w unrefused
 
 -- ---- what is written reads back
 
@@ -90,17 +54,16 @@ pub record Back (P C x y v : List ℕ) (a : Loaded) (x′ y′ v′ : List ℕ) 
 
 -- an answer of `write_vtk`
 module _ (P C o w : List ℕ) {bytes : ℕ} {o′ w′ : List ℕ} (bits : allBelow 4294967296 P ≡ true) (d : WriteDone P C o w (written.Done bytes) o′ w′) where
-  zero-number : writtenNumber (writtenOf P C o w) ≡ 0
+  zero-number : writtenNumber (writtenOf (vtkBytes P C) P C o w) ≡ 0
   zero-number = ap writtenNumber (sym (d .answer))
 
   pub written-mesh : Mesh P C
-  written-mesh = taken P C o w bits zero-number
+  written-mesh = taken (vtkBytes P C) P C o w bits zero-number
 
   -- the bytes that it leaves in the file's table are the file
   pub written-file : take bytes o′ ≡ vtkFile ourTitle P C
   written-file =
-      let e : written.Done bytes ≡ written.Done (vtkBytes P C) = d .answer ∙ answered P C o w bits zero-number in
-      let k : bytes ≡ vtkBytes P C = cc in
+      let k : bytes ≡ vtkBytes P C = done-bytes (vtkBytes P C) P C o w (sym (d .answer)) in
       let f : o′ ≡ front (vtkBytes P C) (vtkFile ourTitle P C) o = d .file ∙ rw zero-number (as-new [] _ o) in
       ap₂ (λ (n : ℕ) (l : List ℕ). take n l) k f ∙ take-at (vtkFile ourTitle P C) _ (vtkBytes P C) (length-file P C (written-mesh .points))
 

@@ -2,7 +2,7 @@ use mathlib.Core.Path.{_≡_, refl, sym, _∙_}
 use native.Mathlib.Omega.{arith}
 use lib.Seq.{length-take-le}
 use Rattle.components.proofs.Steps.{fitting}
-use Rattle.mesh_file.proofs.Writing.{refused, short, storable, done}
+use Rattle.mesh_file.proofs.Writers.{refused, short, storable, done}
 use borrow.Author.Needs.{needs}
 use Rattle.mesh_file.proofs.write_mesh.Statement.{statement}
 use Rattle.mesh_file.proofs.write_mesh.Tie as tie
@@ -15,7 +15,7 @@ judge-requires : tie.Need-judge-requires
 judge-requires c κs = search needs
 
 returns : tie.Need-returns
-returns c = refused _ _ _ _ (c .before .judge .ensures) (c .if1 .taken)
+returns c = refused _ _ _ _ _ _ (c .before .judge .ensures) (c .if1 .taken)
 
 mul-bytes : tie.Need-mul-bytes
 mul-bytes c = search needs
@@ -30,7 +30,7 @@ add-bytes-2 : tie.Need-add-bytes-2
 add-bytes-2 c = let f = fitting _ _ _ (sym (c .before .judge .ensures) ∙ c .if1 .left) in omega (arith, f .cells .small, f .cells .few)
 
 returns-2 : tie.Need-returns-2
-returns-2 c = short _ _ _ _ (sym (c .before .before .judge .ensures) ∙ c .before .if1 .left) refl (c .if2 .taken)
+returns-2 c = short _ _ _ _ _ _ (sym (c .before .before .judge .ensures) ∙ c .before .if1 .left) refl (c .if2 .taken)
 
 mul-need : tie.Need-mul-need
 mul-need c = search needs
@@ -48,7 +48,7 @@ slice-aggregate-put-mesh-2 : tie.Need-slice-aggregate-put-mesh-2
 slice-aggregate-put-mesh-2 c = sym (length-take-le _ _ (fitting _ _ _ (sym (c .before .before .before .before .judge .ensures) ∙ c .before .before .before .if1 .left) .work))
 
 put-mesh-requires : tie.Need-put-mesh-requires
-put-mesh-requires c κs = storable _ _ _ _ (sym (c .before .before .before .before .judge .ensures) ∙ c .before .before .before .if1 .left) refl (c .before .before .if2 .left)
+put-mesh-requires c κs = storable _ _ _ _ _ (sym (c .before .before .before .before .judge .ensures) ∙ c .before .before .before .if1 .left) refl (c .before .before .if2 .left)
 
 same-length : tie.Need-same-length
 same-length c = search needs
@@ -57,7 +57,7 @@ same-length-2 : tie.Need-same-length-2
 same-length-2 c = search needs
 
 returns-3 : tie.Need-returns-3
-returns-3 c = done _ _ _ _ (sym (c .before .before .before .before .before .before .before .before .before .judge .ensures) ∙ c .before .before .before .before .before .before .before .before .if1 .left) refl (c .before .before .before .before .before .before .before .if2 .left) (c .before .before .before .before .put-mesh .ensures)
+returns-3 c = done _ _ _ _ _ _ (sym (c .before .before .before .before .before .before .before .before .before .judge .ensures) ∙ c .before .before .before .before .before .before .before .before .if1 .left) refl (c .before .before .before .before .before .before .before .if2 .left) (c .before .before .before .before .put-mesh .ensures)
 
 pub write-mesh-spec : {M : Type 1} → statement M
 write-mesh-spec =

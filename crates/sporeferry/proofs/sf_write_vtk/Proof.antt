@@ -5,13 +5,13 @@ use Rattle.sporeferry.proofs.sf_write_vtk.Tie as tie
 use Rattle.sporeferry.proofs.sf_write_vtk.Reads as reads
 use Rattle.sporeferry.proofs.sf_write_vtk.Lts as lts
 use Rattle.vtk_file.proofs.write_vtk.Reads as write-vtk-reads
-use Rattle.sporeferry.proofs.of_vtk_written.Reads as of-vtk-written-reads
+use Rattle.sporeferry.proofs.of_written.Reads as of-written-reads
 
 write-vtk-requires : tie.Need-write-vtk-requires
 write-vtk-requires c κs = search needs
 
-of-vtk-written-requires : tie.Need-of-vtk-written-requires
-of-vtk-written-requires c κs = search needs
+of-written-requires : tie.Need-of-written-requires
+of-written-requires c κs = search needs
 
 same-length : tie.Need-same-length
 same-length c = search needs
@@ -22,9 +22,9 @@ same-length-2 c = search needs
 returns : tie.Need-returns
 returns c =
     let d = c .before .before .before .before .before .write-vtk .ensures in
-    record { answer = rw (← d .answer) (c .of-vtk-written .ensures); file = d .file; work = d .work }
+    record { answer = rw (← d .answer) (c .of-written .ensures); file = d .file; work = d .work }
 
 pub sf-write-vtk-spec : {M : Type 1} → statement M
 sf-write-vtk-spec =
     tie.close
-    (tie.spec write-vtk-requires of-vtk-written-requires same-length same-length-2 returns)
+    (tie.spec write-vtk-requires of-written-requires same-length same-length-2 returns)
