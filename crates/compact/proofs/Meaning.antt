@@ -3,9 +3,9 @@
 use mathlib.Core.Path.{_≡_, refl, sym, ap, ap₂, _∙_}
 use mathlib.Core.Logic.{_⊎_, inl, inr, _≢_}
 use mathlib.Core.Bool.{Bool, true, false, cond, not, _&&_, true≢false}
-use mathlib.Core.List.{List, [], _∷_, _++_, map, append-nil, append-assoc}
+use mathlib.Core.List.{List, [], _∷_, _++_, append-nil, append-assoc}
 use Prim.Native.Nat.{ℕ, zero, suc, _+_, _*_, _<_}
-use native.Mathlib.Nat.{not-suc-le-zero, le-of-suc-le-suc}
+use native.Mathlib.Nat.{not-suc-le-zero}
 use native.Mathlib.Numerals.{add-one}
 use native.Mathlib.Omega.{arith}
 use lib.Ieee.{Float}
@@ -13,6 +13,7 @@ use lib.ListN.{length, getD}
 use Rattle.lists.specs.Appearance.{place}
 use Rattle.lists.specs.Runs.{run, those}
 use Rattle.lists.proofs.Cases.{eqOr}
+use Rattle.lists.proofs.Listing.{map-at}
 use Rattle.lists.proofs.Appearing.{place-head, place-tail}
 use Rattle.lists.proofs.Running.{run-last}
 use Rattle.volume.specs.Volume.{verdictAt}
@@ -94,22 +95,17 @@ place-at x (y ∷ s) h = go (place-at x s) (eqOr x y)
     go ih (inl e) = ap (λ (k : ℕ). getD (y ∷ s) k 0) (place-head x y s e) ∙ sym e
     go ih (inr d) = ap (λ (k : ℕ). getD (y ∷ s) k 0) (place-tail x y s d) ∙ ih (omega (arith, place-tail x y s d))
 
-map-at : (f : ℕ → ℕ) (l : List ℕ) (k : ℕ) → k < length l → getD (map f l) k 0 ≡ f (getD l k 0)
-map-at f [] k h = absurd (not-suc-le-zero h)
-map-at f (x ∷ l) zero h = refl
-map-at f (x ∷ l) (suc k) h = map-at f l k (le-of-suc-le-suc h)
-
 module _ (F : List ℕ) (k : ℕ) (h : k < length F) where
   -- a number of the compacted cells is below the number of points
   pub number-below : getD (renumbered F) k 0 < length (usedOf F)
   unfolding renumbered usedOf
-  number-below = omega (arith, map-at (λ v. place v (usedOf F)) F k h, uses-here F [] k h)
+  number-below = omega (arith, map-at (λ v. place v (usedOf F)) F 0 0 k h, uses-here F [] k h)
 
   -- and names the point that stood there
   pub names-same : getD (usedOf F) (getD (renumbered F) k 0) 0 ≡ getD F k 0
   unfolding renumbered usedOf
   names-same =
-      ap (λ (m : ℕ). getD (usedOf F) m 0) (map-at (λ v. place v (usedOf F)) F k h) ∙ place-at (getD F k 0) (usedOf F) (uses-here F [] k h)
+      ap (λ (m : ℕ). getD (usedOf F) m 0) (map-at (λ v. place v (usedOf F)) F 0 0 k h) ∙ place-at (getD F k 0) (usedOf F) (uses-here F [] k h)
 
   -- with the same bits
   pub bits-same : (P : List ℕ) (a : ℕ) → a < 3 → getD (pointsAt P (usedOf F)) (3 * getD (renumbered F) k 0 + a) 0 ≡ getD P (3 * getD F k 0 + a) 0

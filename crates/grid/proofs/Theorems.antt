@@ -4,7 +4,6 @@ use mathlib.Core.Logic.{_⊎_, inl, inr, _≢_}
 use mathlib.Core.Bool.{true, false, _||_}
 use mathlib.Core.List.{List, [], _∷_, map}
 use Prim.Native.Nat.{ℕ, zero, suc, _≤_, _<_}
-use native.Mathlib.Nat.{not-suc-le-zero, le-of-suc-le-suc}
 use native.Mathlib.Omega.{arith}
 use borrow.Author.Tests.{lt-ltb}
 use lib.ListN.{length, getD, length-map}
@@ -13,6 +12,7 @@ use Rattle.lists.specs.Tables.{allBelow}
 use Rattle.lists.proofs.Cases.{ltOr}
 use Rattle.lists.proofs.Counted.{hit-self, cnt-at, cnt-find}
 use Rattle.lists.proofs.Lent.{below-at}
+use Rattle.lists.proofs.Listing.{map-at}
 use Rattle.octants.specs.Oct.{ax, ay, az, Pos, pos}
 use Rattle.octants.specs.Table.{read}
 use Rattle.cells.specs.Cells.{Cell, cells, flat}
@@ -59,11 +59,6 @@ flat-map : (f : ℕ → ℕ) (g : Pos → ℕ) (D : List Cell) → flat (λ q. f
 unfolding flat
 flat-map f g [] = refl
 flat-map f g (c ∷ D) = ap (λ (t : List ℕ). f (g (c .c0)) ∷ f (g (c .c1)) ∷ f (g (c .c2)) ∷ f (g (c .c3)) ∷ t) (flat-map f g D)
-
-map-at : {A B : Type 0} (f : A → B) (l : List A) (x : A) (y : B) (i : ℕ) → i < length l → getD (map f l) i y ≡ f (getD l i x)
-map-at f [] x y i h = absurd (not-suc-le-zero h)
-map-at f (a ∷ l) x y zero h = refl
-map-at f (a ∷ l) x y (suc i) h = map-at f l x y i (le-of-suc-le-suc h)
 
 -- no coordinate of a cell is out of its field
 packs-each : (D : List Cell) → names far D ≡ false → Each Packs D

@@ -9,8 +9,8 @@ use lib.Dec.{eqb}
 use lib.ListN.{length, take}
 use lib.Seq.{length-take-le}
 use Rattle.lists.specs.Ladder.{_when_, first, proper}
-use Rattle.lists.specs.Tables.{cellsOf, lengthRows, allBelow, allAtMost}
-use Rattle.lists.proofs.Rows.{clear, front-clear, goes-on}
+use Rattle.lists.specs.Tables.{most, cellsOf, lengthRows, allBelow, allAtMost}
+use Rattle.lists.proofs.Rows.{clear, front-clear, goes-on, few-points}
 use Rattle.lists.proofs.Lent.{below-at}
 use Rattle.links.specs.Vertices.{Cells}
 use Rattle.groups.specs.Settled.{Sized}
@@ -19,6 +19,11 @@ use Rattle.groups.specs.Judged.{sizeRows, crossedRows}
 pub sizes-proper : (p c a room need : ℕ) → proper (sizeRows p c a room need) ≡ true
 unfolding proper sizeRows lengthRows
 sizes-proper p c a room need = refl
+
+-- sizes that are not refused are those of few points
+pub sizes-few : (p c a room need : ℕ) → first (sizeRows p c a room need) ≡ 0 → p / 3 ≤ most
+unfolding sizeRows
+sizes-few p c a room need e = few-points p c (front-clear (lengthRows p c) _ e)
 
 pub crossed-proper : (p : ℕ) (C X : List ℕ) (room need : ℕ) → proper (crossedRows p C X room need) ≡ true
 unfolding proper crossedRows sizeRows lengthRows

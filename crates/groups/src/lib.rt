@@ -36,7 +36,7 @@ pub fn judge(points: usize, cells: &[u32], crossing: &[u8], room: usize, need: u
     if !lists::all_at_most(crossing, 1) {
         return 6;
     }
-    if !lists::all_below(cells, points / 3) {
+    if !lists::all_below(cells, (points / 3) as u32) {
         return 8;
     }
     0

@@ -56,7 +56,7 @@ fn judge_cover(
     if !lists::all_at_most(probe, 1) {
         return 6;
     }
-    if !lists::all_below(cells, points / 3) {
+    if !lists::all_below(cells, (points / 3) as u32) {
         return 8;
     }
     0

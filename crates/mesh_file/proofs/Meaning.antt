@@ -3,7 +3,7 @@ use mathlib.Core.Path.{_≡_, refl, sym, ap, ap₂, _∙_}
 use mathlib.Core.Logic.{_⊎_, inl, inr, _≢_}
 use mathlib.Core.Bool.{Bool, true, false, cond, not, _||_}
 use mathlib.Core.List.{List, [], _∷_}
-use Prim.Native.Nat.{ℕ, _+_, _*_, _/_, _%_, _≤_, _<_}
+use Prim.Native.Nat.{ℕ, _+_, _*_, _/_, _%_, _≤_}
 use native.Mathlib.Omega.{arith}
 use borrow.Author.Tests.{le-ltb, eqb-true, ltb-false, not-false}
 use lib.Dec.{ltb}
@@ -13,9 +13,8 @@ use Rattle.lists.specs.Ladder.{Row, _when_, first, proper}
 use Rattle.lists.specs.Tables.{most, pointsOf, cellsOf, allBelow, front, on, Determined}
 use Rattle.lists.proofs.Rows.{clear, exactly, number-rows, unless-none, unless-some}
 use Rattle.lists.proofs.Cases.{eqOr}
-use Rattle.lists.proofs.Lent.{below-at, as-lent, as-new, determined}
-use Rattle.words.specs.Words.{wordAt, placeOf, wordsAt}
-use Rattle.words.proofs.Words.{length-words, words-at}
+use Rattle.lists.proofs.Lent.{as-lent, as-new, determined}
+use Rattle.words.proofs.Words.{length-words, words-small}
 use Rattle.mesh_file.specs.File.{encode, endOf, second, third, end, pointCount, cellCount, pointsIn, cellsIn}
 use Rattle.mesh_file.specs.Writer.{writeRows, writtenNumber, writtenOf, fileAfter}
 use Rattle.mesh_file.specs.Write.{bytesFor}
@@ -26,7 +25,7 @@ use Rattle.mesh_file.specs.declared.Loaded.the-variants as loaded
 use Rattle.mesh_file.proofs.Sections.{Good, good, file-proper, uncut}
 use Rattle.mesh_file.proofs.Writers.{write-number-is}
 use Rattle.mesh_file.proofs.Writing.{length-encode}
-use Rattle.mesh_file.proofs.RoundTrip.{Mesh, all-below, reads-points, counts-points, reads-cells, counts-cells, reads-right, encode-laid, bytes-are}
+use Rattle.mesh_file.proofs.RoundTrip.{Mesh, reads-points, counts-points, reads-cells, counts-cells, reads-right, encode-laid, bytes-are}
 
 -- ---- each refusal exactly when, in order
 
@@ -150,20 +149,6 @@ file-front P C o w bits z =
 
 -- ---- only what is written reads
 
-word-small : (b : List ℕ) (at : ℕ) → allBelow 256 b ≡ true → at + 4 ≤ length b → wordAt false b at < 4294967296
-unfolding wordAt
-word-small b at s h =
-    let q = below-at 256 b s in
-    omega (arith, q at (omega arith), q (at + 1) (omega arith), q (at + 2) (omega arith), q (at + 3) (omega arith))
-
-words-small : (b : List ℕ) (at n : ℕ) → allBelow 256 b ≡ true → at + 4 * n ≤ length b → allBelow 4294967296 (wordsAt false false b at n) ≡ true
-unfolding placeOf
-words-small b at n s h =
-    all-below 4294967296 (wordsAt false false b at n)
-    (λ i k.
-    let j : i < n = omega (arith, length-words false false b at n) in
-    omega (arith, words-at false false b at n i j, word-small b (at + 4 * i) s (omega arith)))
-
 -- what is known of a file that reads
 record Reads (b : List ℕ) (p c : ℕ) : Type 0 where
   good : Good b
@@ -216,7 +201,7 @@ module _ (b x y w : List ℕ) (s : allBelow 256 b ≡ true) (p c : ℕ) (e : loa
         few-points = omega (arith, r .good .few-points);
         few-cells = omega (arith, r .good .few-cells);
         names = ap (λ (k : ℕ). allBelow k (cellsIn b)) np ∙ r .good .names;
-        bits = words-small b 4 (3 * pointCount b) s (omega (arith, r .good .laid .points .fits));
+        bits = words-small false b 4 (3 * pointCount b) s (omega (arith, r .good .laid .points .fits));
       }
 
 -- so no other bytes read as that mesh

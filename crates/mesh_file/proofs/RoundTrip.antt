@@ -3,17 +3,15 @@ use mathlib.Core.Path.{_≡_, refl, sym, ap, ap₂, subst, _∙_}
 use mathlib.Core.Bool.{Bool, true, false}
 use mathlib.Core.List.{List, [], _∷_, _++_, append-assoc, append-nil}
 use mathlib.Core.Logic.{_⊎_, inl, inr}
-use Prim.Native.Nat.{ℕ, zero, suc, _+_, _-_, _*_, _/_, _≤_, _<_, suc-le-suc}
+use Prim.Native.Nat.{ℕ, zero, suc, _+_, _-_, _*_, _/_, _≤_, _<_}
 use native.Mathlib.Omega.{arith}
-use borrow.Author.Tests.{le-ltb, lt-ltb}
-use lib.Dec.{ltb}
 use lib.ListN.{length, getD, take, drop, length-append, length-drop, drop-of-length-le}
 use lib.Seq.{drop-drop, take-add, take-all, length-take-le}
 use Rattle.lists.specs.Tables.{most, pointsOf, cellsOf, allBelow}
 use Rattle.lists.specs.Appearance.{place, noted, seenOf}
 use Rattle.lists.specs.Tables.{same}
 use Rattle.lists.proofs.Cases.{ltOr}
-use Rattle.lists.proofs.Lent.{below-at}
+use Rattle.lists.proofs.Lent.{below-at, all-below}
 use Rattle.lists.proofs.Listing.{same-eq, same-refl}
 use Rattle.words.specs.Words.{bytes4, bytesOf, wordAt, wordsAt}
 use Rattle.words.proofs.Words.{length-four, length-bytes, length-words, word-bytes, words-bytes, word-there, words-there}
@@ -79,12 +77,6 @@ pub record Mesh (P C : List ℕ) : Type 0 where
   pub few-cells : cellsOf C ≤ most
   pub names : allBelow (pointsOf P) C ≡ true
   pub bits : allBelow 4294967296 P ≡ true
-
--- a list whose entries are below a bound
-pub all-below : (n : ℕ) (l : List ℕ) → ((i : ℕ) → i < length l → getD l i 0 < n) → allBelow n l ≡ true
-unfolding allBelow
-all-below n [] h = refl
-all-below n (x ∷ l) h = rw (lt-ltb x n (h 0 (omega arith))) (all-below n l (λ i k. h (suc i) (suc-le-suc k)))
 
 -- numbers below one bound are below a greater one
 below-more : (m n : ℕ) (l : List ℕ) → m ≤ n → allBelow m l ≡ true → allBelow n l ≡ true

@@ -6,7 +6,7 @@ use mathlib.Core.List.{List, [], _∷_, _++_, append-assoc}
 use Prim.Native.Nat.{ℕ, suc, _+_, _-_, _*_, _/_, _%_, _≤_, _<_}
 use native.Mathlib.Omega.{arith}
 use borrow.Author.Tests.{eq-eqb, ne-eqb}
-use lib.ListN.{length, getD, drop, replicate, length-append, length-replicate, getD-replicate}
+use lib.ListN.{length, getD, drop, replicate, length-append, length-replicate}
 use lib.Seq.{sets, length-sets, drop-cons}
 use Rattle.lists.specs.Ladder.{first}
 use Rattle.lists.specs.Tables.{pointsOf, cellsOf}
@@ -23,7 +23,7 @@ use Rattle.vtk_layout.specs.File.{ledWord, led, typesOf, vtkFile}
 use Rattle.mesh_file.specs.Writer.{Storable, Placed}
 use Rattle.vtk_file.specs.Write.{vtkBytes, ledCell}
 
--- ---- the cells led by fours, and their types
+-- ---- the cells led by fours
 
 drop-five : (l : List ℕ) (j : ℕ) → j + 5 ≤ length l
     → drop j l ≡ getD l j 0 ∷ getD l (j + 1) 0 ∷ getD l (j + 2) 0 ∷ getD l (j + 3) 0 ∷ getD l (j + 4) 0 ∷ drop (j + 5) l
@@ -109,9 +109,6 @@ module _ (C : List ℕ) where
       let w3 = writing-on true src o at o2 2 w2 (omega arith) refl e3 in
       let w4 = writing-on true src o at o3 3 w3 (omega arith) refl e4 in
       writing-done true src o at o5 5 (writing-on true src o at o4 4 w4 (omega arith) refl e5) (omega arith)
-
-pub type-at : (n i : ℕ) → i < n → _≡_ {A = ℕ} 10 (getD (typesOf n) i 0)
-type-at n i h = sym (getD-replicate n i 10 0 h)
 
 -- ---- the file
 

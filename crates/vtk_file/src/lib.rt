@@ -7,7 +7,7 @@ ghost use lib.Seq.{sets};
 ghost use Rattle.words.specs.Words.{bytesOf};
 ghost use Rattle.mesh_file.specs.Writer.{Storable, Placed};
 ghost use Rattle.vtk_layout.specs.Layout.{ourTitle};
-ghost use Rattle.vtk_layout.specs.File.{led, typesOf, vtkFile};
+ghost use Rattle.vtk_layout.specs.File.{led, vtkFile};
 ghost use Rattle.vtk_file.specs.Write.{bytesOfCounts, vtkBytes, ledCell, WriteDone};
 use mesh_file::Written;
 
@@ -37,18 +37,6 @@ fn put_cells(cells: &[u32], file: &mut [u8], at: usize)
     }
 }
 
-// Stores the type of each of n cells: 10, a tetrahedron.
-fn put_types(n: usize, file: &mut [u8], at: usize)
-    requires { ⌜ at + 4 * n ≤ length (now file) ⌝ }
-    ensures { λ _. ⌜ now (file .exit) ≡ sets (now (file .entry)) at (bytesOf true (typesOf n)) ⌝ }
-{
-    let mut i: usize = 0;
-    while i < n {
-        words::put_word(file, at + 4 * i, true, 10);
-        i += 1;
-    }
-}
-
 // Fills a table of exactly its length with the file of a mesh.
 fn put_mesh(points: &[u32], cells: &[u32], file: &mut [u8], work: &mut [u32])
     requires { ⌜ Storable (vtkBytes (now points) (now cells)) (now points) (now cells) (now file) (now work) ⌝ }
@@ -68,7 +56,7 @@ fn put_mesh(points: &[u32], cells: &[u32], file: &mut [u8], work: &mut [u32])
     let c = vtk_layout::put_lines(file, b, b"", 5 * n, b"\n");
     put_cells(cells, file, c);
     let d = vtk_layout::put_lines(file, c + 20 * n, b"\nCELL_TYPES ", n, b"\n");
-    put_types(n, file, d);
+    words::put_same(file, d, true, n, 10);
     let e = vtk_layout::put_lines(
         file,
         d + 4 * n,

@@ -13,16 +13,16 @@ use Rattle.lists.specs.Ladder.{Row, _when_, first}
 use Rattle.lists.specs.Tables.{most, pointsOf, cellsOf, allBelow, listOf, same, front, zeroed, among, Determined}
 use Rattle.lists.proofs.Rows.{and-left, and-right, number-rows, unless-none, unless-some}
 use Rattle.lists.proofs.Cases.{eqOr}
-use Rattle.lists.proofs.Lent.{below-at, as-lent, as-new, determined}
+use Rattle.lists.proofs.Lent.{below-at, all-below, as-lent, as-new, determined}
 use Rattle.lists.proofs.Listing.{length-list, list-at, list-is, list-same, same-eq, same-refl}
 use Rattle.words.specs.Words.{bytesOf, wordAt, placeOf, wordsAt}
-use Rattle.words.proofs.Words.{length-bytes, length-words, words-at, words-bytes, words-there}
+use Rattle.words.proofs.Words.{length-bytes, length-words, words-at, words-small, words-bytes, words-there}
 use Rattle.components.specs.Numbers.{componentNumbers}
 use Rattle.file_numbers.proofs.Comparing.{length-components, cells-in}
 use Rattle.mesh_file.specs.Read.{shortOf, loadedNumber}
 use Rattle.mesh_file.specs.declared.Loaded.{Loaded}
 use Rattle.mesh_file.specs.declared.Loaded.the-variants as loaded
-use Rattle.mesh_file.proofs.RoundTrip.{Mesh, all-below, number-small}
+use Rattle.mesh_file.proofs.RoundTrip.{Mesh, number-small}
 use Rattle.mesh_file.proofs.Meaning.{Room}
 use Rattle.vtk_layout.specs.Layout.{feed, versionLine, noFeed, isTitle, written, Laid, locatedOf}
 use Rattle.vtk_layout.specs.File.{ledWord, led, typesOf, vtkFile}
@@ -31,7 +31,7 @@ use Rattle.vtk_layout.specs.declared.Located.the-variants as located
 use Rattle.vtk_layout.proofs.Sound.{located-laid}
 use Rattle.vtk_layout.proofs.Front.{located-stops}
 use Rattle.vtk_layout.proofs.There.{Standing, stands}
-use Rattle.vtk_reader.specs.Read.{stride, marksAt, pointsIn, cellsIn, rightNumbers, bodyRows, readRows, loadedBy, pointsBy, cellsBy, workBy, LoadDone, vtkLoadedOf}
+use Rattle.vtk_reader.specs.Read.{leadsIn, typesIn, pointsIn, cellsIn, rightNumbers, bodyRows, readRows, loadedBy, pointsBy, cellsBy, workBy, LoadDone, vtkLoadedOf}
 use Rattle.vtk_reader.proofs.Reading.{Good, good, body-proper}
 
 -- ---- each refusal exactly when, in order
@@ -114,32 +114,17 @@ place-word C i =
     let e : (i + i / 4 + 1) / 5 * 4 + (i + i / 4 + 1) % 5 - 1 ≡ i = omega arith in
     cell-word C (i + i / 4 + 1) (λ q. omega arith) ∙ ap (λ (k : ℕ). getD C k 0) e
 
--- words of a block that all have one value
-module _ (led : Bool) (b : List ℕ) (at n v : ℕ) where
-  mark-of : same (marksAt led b at n) (replicate n v) ≡ true → (i : ℕ) → i < n → wordAt true b (at + stride led i) ≡ v
-  unfolding marksAt
-  mark-of s i h =
-      sym (list-at (λ k. wordAt true b (at + stride led k)) n i h)
-      ∙ ap (λ (l : List ℕ). getD l i 0) (same-eq (listOf (λ k. wordAt true b (at + stride led k)) n) (replicate n v) s)
-      ∙ getD-replicate n i v 0 h
-
-  marks-are : ((i : ℕ) → i < n → wordAt true b (at + stride led i) ≡ v) → same (marksAt led b at n) (replicate n v) ≡ true
-  unfolding marksAt
-  marks-are f =
-      ap (λ (l : List ℕ). same l (replicate n v))
-      (list-is (λ k. wordAt true b (at + stride led k)) n (replicate n v) (length-replicate n v) (λ i h. f i h ∙ sym (getD-replicate n i v 0 h)))
-      ∙ same-refl (replicate n v)
-
 module _ (b : List ℕ) (c n : ℕ) where
   cell-at : (i : ℕ) → i < 4 * n → getD (cellsIn b n c) i 0 ≡ wordAt true b (c + 4 * (i + i / 4 + 1))
   unfolding placeOf
   cell-at i h = words-at true true b c (4 * n) i h
 
-  lead-at : same (marksAt true b c n) (replicate n 4) ≡ true → (i : ℕ) → i < n → wordAt true b (c + 20 * i) ≡ 4
-  unfolding stride
-  lead-at s i h = mark-of true b c n 4 s i h
+  lead-at : same (leadsIn b n c) (replicate n 4) ≡ true → (i : ℕ) → i < n → wordAt true b (c + 20 * i) ≡ 4
+  unfolding leadsIn
+  lead-at s i h =
+      sym (list-at (λ k. wordAt true b (c + 20 * k)) n i h) ∙ ap (λ (l : List ℕ). getD l i 0) (same-eq (leadsIn b n c) (replicate n 4) s) ∙ getD-replicate n i 4 0 h
 
-  at-word : same (marksAt true b c n) (replicate n 4) ≡ true → (j : ℕ) → j < 5 * n → (j % 5 ≡ 0) ⊎ (j % 5 ≢ 0) → wordAt true b (c + 4 * j) ≡ ledWord (cellsIn b n c) j
+  at-word : same (leadsIn b n c) (replicate n 4) ≡ true → (j : ℕ) → j < 5 * n → (j % 5 ≡ 0) ⊎ (j % 5 ≢ 0) → wordAt true b (c + 4 * j) ≡ ledWord (cellsIn b n c) j
   at-word s j h (inl z) =
       let f : c + 4 * j ≡ c + 20 * (j / 5) = omega arith in
       let g : 5 * (j / 5) ≡ j = omega arith in
@@ -152,7 +137,7 @@ module _ (b : List ℕ) (c n : ℕ) where
       ap (λ (q : ℕ). wordAt true b (c + 4 * q)) f ∙ sym (cell-at (j / 5 * 4 + j % 5 - 1) k) ∙ sym (cell-word (cellsIn b n c) j z)
 
   -- the words of the block one behind the other are the cells with their leads
-  led-is : same (marksAt true b c n) (replicate n 4) ≡ true → wordsAt true false b c (5 * n) ≡ led (cellsIn b n c)
+  led-is : same (leadsIn b n c) (replicate n 4) ≡ true → wordsAt true false b c (5 * n) ≡ led (cellsIn b n c)
   unfolding wordsAt placeOf led
   led-is s =
       list-same (λ j. wordAt true b (c + 4 * j)) (ledWord (cellsIn b n c)) (5 * n) (λ j h. at-word s j h (eqOr (j % 5) 0))
@@ -175,20 +160,13 @@ module _ (b : List ℕ) (s : allBelow 256 b ≡ true) (p n a c t d : ℕ) (l : L
       ap (λ (k : ℕ). take k (drop c b)) e ∙ sym (words-bytes true b c (5 * n) s (omega (arith, l .cells-in))) ∙ ap (bytesOf true) (led-is b c n (g .led))
 
   types-are : wordsAt true false b t n ≡ typesOf n
-  unfolding wordsAt placeOf stride
-  types-are = list-is (λ i. wordAt true b (t + 4 * i)) n (replicate n 10) (length-replicate n 10) (λ i h. mark-of false b t n 10 (g .typed) i h ∙ sym (getD-replicate n i 10 0 h))
+  types-are = same-eq (typesIn b n t) (replicate n 10) (g .typed)
 
   types-bytes : take (4 * n) (drop t b) ≡ bytesOf true (typesOf n)
   types-bytes = sym (words-bytes true b t n s (l .types-in)) ∙ ap (bytesOf true) types-are
 
   numbers-bytes : take (4 * n) (drop d b) ≡ bytesOf true (componentNumbers (cellsIn b n c) n)
   numbers-bytes = sym (words-bytes true b d n s (l .numbers-in)) ∙ ap (bytesOf true) (same-eq (wordsAt true false b d n) (componentNumbers (cellsIn b n c) n) r)
-
-  word-small : (at : ℕ) → at + 4 ≤ length b → wordAt true b at < 4294967296
-  unfolding wordAt
-  word-small at h =
-      let q = below-at 256 b s in
-      omega (arith, q at (omega arith), q (at + 1) (omega arith), q (at + 2) (omega arith), q (at + 3) (omega arith))
 
   mesh-is : Mesh (pointsIn b p a) (cellsIn b n c)
   unfolding placeOf
@@ -200,11 +178,7 @@ module _ (b : List ℕ) (s : allBelow 256 b ≡ true) (p n a c t d : ℕ) (l : L
         few-points = omega (arith, count-points, g .few-points);
         few-cells = omega (arith, cells-in true true b c n, g .few-cells);
         names = ap (λ (k : ℕ). allBelow k (cellsIn b n c)) count-points ∙ g .names;
-        bits =
-            all-below 4294967296 (pointsIn b p a)
-            (λ i k.
-            let j : i < 3 * p = omega arith in
-            omega (arith, words-at true false b a (3 * p) i j, word-small (a + 4 * i) (omega (arith, l .points-in))));
+        bits = words-small true b a (3 * p) s (omega (arith, l .points-in));
       }
 
   bytes-are : b ≡ vtkFile (l .title) (pointsIn b p a) (cellsIn b n c)
@@ -358,23 +332,23 @@ module _ (title P C : List ℕ) (m : Mesh P C) (plain : isTitle title ≡ true) 
         list-is (λ i. wordAt true b (c + 4 * (i + i / 4 + 1))) (4 * cellsOf C) C (m .cells)
         (λ i h. led-read (i + i / 4 + 1) (omega arith) ∙ place-word C i)
 
-    leads-right : same (marksAt true b c (cellsOf C)) (replicate (cellsOf C) 4) ≡ true
-    unfolding stride
+    leads-right : same (leadsIn b (cellsOf C) c) (replicate (cellsOf C) 4) ≡ true
+    unfolding leadsIn
     leads-right =
-        marks-are true b c (cellsOf C) 4
-        (λ i h. let k : c + 20 * i ≡ c + 4 * (5 * i) = omega arith in ap (wordAt true b) k ∙ led-read (5 * i) (omega arith) ∙ lead-word C i)
+        ap (λ (l : List ℕ). same l (replicate (cellsOf C) 4))
+        (list-is (λ i. wordAt true b (c + 20 * i)) (cellsOf C) (replicate (cellsOf C) 4) (length-replicate (cellsOf C) 4)
+        (λ i h.
+        let k : c + 20 * i ≡ c + 4 * (5 * i) = omega arith in
+        ap (wordAt true b) k ∙ led-read (5 * i) (omega arith) ∙ lead-word C i ∙ sym (getD-replicate (cellsOf C) i 4 0 h)))
+        ∙ same-refl (replicate (cellsOf C) 4)
 
     types-small : allBelow 4294967296 (typesOf (cellsOf C)) ≡ true
     types-small = all-below 4294967296 (typesOf (cellsOf C)) (λ i h. let k : i < cellsOf C = omega (arith, length-replicate {A = ℕ} (cellsOf C) 10) in omega (arith, getD-replicate {A = ℕ} (cellsOf C) i 10 0 k))
 
-    types-right : same (marksAt false b t (cellsOf C)) (replicate (cellsOf C) 10) ≡ true
-    unfolding stride
+    types-right : same (typesIn b (cellsOf C) t) (replicate (cellsOf C) 10) ≡ true
     types-right =
-        marks-are false b t (cellsOf C) 10
-        (λ i h.
-        word-of b (typesOf (cellsOf C)) t (cellsOf C) types-small (length-replicate (cellsOf C) 10) (l .types-in)
-        (block-words b (typesOf (cellsOf C)) t (cellsOf C) types-small (length-replicate (cellsOf C) 10) (l .types-in) et) i h
-        ∙ getD-replicate (cellsOf C) i 10 0 h)
+        ap (λ (l : List ℕ). same l (replicate (cellsOf C) 10)) (block-words b (typesOf (cellsOf C)) t (cellsOf C) types-small (length-replicate (cellsOf C) 10) (l .types-in) et)
+        ∙ same-refl (replicate (cellsOf C) 10)
 
     numbers-small : allBelow 4294967296 (componentNumbers C (cellsOf C)) ≡ true
     numbers-small =

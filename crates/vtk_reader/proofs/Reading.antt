@@ -7,13 +7,13 @@ use Prim.Native.Nat.{ℕ, suc, _+_, _*_, _/_, _≤_, _<_}
 use native.Mathlib.Omega.{arith}
 use borrow.Author.Tests.{lt-ltb, le-ltb, ne-eqb, ltb-false, not-false}
 use lib.Dec.{ltb}
-use lib.ListN.{length, getD, set, take, drop, replicate, length-replicate, getD-replicate}
+use lib.ListN.{length, getD, set, take, drop, replicate}
 use lib.Seq.{length-take-le, drop-cons}
 use Rattle.lists.specs.Ladder.{first, proper}
 use Rattle.lists.specs.Tables.{most, cellsOf, allBelow, same, allFrom, on, among}
 use Rattle.lists.proofs.Rows.{clear, unless-none, unless-some}
-use Rattle.lists.proofs.Lent.{below-at, below-end, as-lent, as-new, as-lent-below}
-use Rattle.lists.proofs.Listing.{length-list, list-at, same-on, same-off, same-end}
+use Rattle.lists.proofs.Lent.{below-at, below-append, below-end, as-lent, as-new, as-lent-below}
+use Rattle.lists.proofs.Listing.{length-list, list-at, each-on, each-off, each-end}
 use Rattle.words.specs.Words.{wordAt, placeOf, wordsAt, spanOf}
 use Rattle.words.proofs.Words.{length-words, words-at, Reading, reading-on}
 use Rattle.links.specs.Vertices.{Cells}
@@ -27,39 +27,9 @@ use Rattle.mesh_file.specs.declared.Loaded.the-variants.{Done, Refused, Short}
 use Rattle.vtk_layout.specs.Layout.{Laid}
 use Rattle.vtk_layout.specs.declared.Located.{Located}
 use Rattle.vtk_layout.specs.declared.Located.the-variants as located
-use Rattle.vtk_reader.specs.Read.{stride, marksAt, pointsIn, cellsIn, bodyRows, loadedBy, pointsBy, cellsBy, workBy, LoadDone, cellAt, cellGot, cellRows}
-
--- ---- the loops that compare words with one value
-
-module _ (led : Bool) (b : List ℕ) (at n i value : ℕ) where
-  marks-long : length (marksAt led b at n) ≡ n
-  unfolding marksAt
-  marks-long = length-list (λ k. wordAt true b (at + stride led k)) n
-
-  mark-is : i < n → getD (marksAt led b at n) i 0 ≡ wordAt true b (at + stride led i)
-  unfolding marksAt
-  mark-is h = list-at (λ k. wordAt true b (at + stride led k)) n i h
-
-  pub marks-on : (x : ℕ) → i < n → x ≡ wordAt true b (at + stride led i) → x ≡ value
-      → same (drop i (marksAt led b at n)) (drop i (replicate n value)) ≡ same (drop (i + 1) (marksAt led b at n)) (drop (i + 1) (replicate n value))
-  marks-on x h e d =
-      same-on (marksAt led b at n) (replicate n value) i (omega (arith, marks-long)) (omega (arith, length-replicate n value))
-      (mark-is h ∙ sym e ∙ d ∙ sym (getD-replicate n i value 0 h))
-
-  pub marks-off : (x : ℕ) → i < n → x ≡ wordAt true b (at + stride led i) → x ≢ value → same (drop i (marksAt led b at n)) (drop i (replicate n value)) ≡ false
-  marks-off x h e d =
-      same-off (marksAt led b at n) (replicate n value) i (omega (arith, marks-long)) (omega (arith, length-replicate n value))
-      (λ q. d (e ∙ sym (mark-is h) ∙ q ∙ getD-replicate n i value 0 h))
-
-  pub marks-end : n ≤ i → same (drop i (marksAt led b at n)) (drop i (replicate n value)) ≡ true
-  marks-end h = same-end (marksAt led b at n) (replicate n value) i (omega (arith, marks-long)) (omega (arith, length-replicate n value))
+use Rattle.vtk_reader.specs.Read.{leadsIn, typesIn, pointsIn, cellsIn, bodyRows, loadedBy, pointsBy, cellsBy, workBy, LoadDone, cellAt, cellGot, cellRows}
 
 -- ---- the loop that looks at the cells
-
-below-append : (bound : ℕ) (xs ys : List ℕ) → allBelow bound (xs ++ ys) ≡ allBelow bound xs && allBelow bound ys
-unfolding allBelow
-below-append bound [] ys = refl
-below-append bound (x ∷ xs) ys = ap (λ (t : Bool). ltb x bound && t) (below-append bound xs ys) ∙ sym (and-assoc (ltb x bound) (allBelow bound xs) (allBelow bound ys))
 
 pub below-none : (b : List ℕ) (at bound : ℕ) (t : Bool) → not t ≡ true → false ≡ t && allBelow bound (cellAt b at)
 below-none b at bound true h = absurd (true≢false (sym h))
@@ -90,13 +60,21 @@ module _ (b : List ℕ) (at bound : ℕ) (t : Bool) (h : not t ≡ false) where
 
 -- what is still to be looked at
 pub record Looking (b : List ℕ) (at n bound : ℕ) (named : Bool) (i : ℕ) : Type 0 where
-  pub leads : same (marksAt true b at n) (replicate n 4) ≡ same (drop i (marksAt true b at n)) (drop i (replicate n 4))
+  pub leads : same (leadsIn b n at) (replicate n 4) ≡ same (drop i (leadsIn b n at)) (drop i (replicate n 4))
   pub names : allBelow bound (cellsIn b n at) ≡ named && allBelow bound (drop (4 * i) (cellsIn b n at))
 
 pub looking-start : (b : List ℕ) (at n bound : ℕ) → Looking b at n bound true 0
 looking-start b at n bound = record { leads = refl; names = refl }
 
 module _ (b : List ℕ) (at n bound i : ℕ) where
+  leads-long : length (leadsIn b n at) ≡ n
+  unfolding leadsIn
+  leads-long = length-list (λ k. wordAt true b (at + 20 * k)) n
+
+  lead-is : i < n → getD (leadsIn b n at) i 0 ≡ wordAt true b (at + 20 * i)
+  unfolding leadsIn
+  lead-is h = list-at (λ k. wordAt true b (at + 20 * k)) n i h
+
   cell-word : (k : ℕ) (j : ℕ) → 4 * i + k < 4 * n → at + 4 * (4 * i + k + (4 * i + k) / 4 + 1) ≡ j → getD (cellsIn b n at) (4 * i + k) 0 ≡ wordAt true b j
   unfolding placeOf
   cell-word k j h e = words-at true true b at (4 * n) (4 * i + k) h ∙ ap (wordAt true b) e
@@ -127,9 +105,8 @@ module _ (b : List ℕ) (at n bound i : ℕ) where
   module _ (named : Bool) (w : Looking b at n bound named i) where
     pub looking-on : (x : ℕ) (t : Bool) → i < n → x ≡ wordAt true b (at + 20 * i) → x ≡ 4 → t ≡ named && allBelow bound (cellAt b (at + 20 * i))
         → Looking b at n bound t (i + 1)
-    unfolding stride
     looking-on x t h e f g = record {
-      leads = w .leads ∙ marks-on true b at n i 4 x h e f;
+      leads = w .leads ∙ each-on (leadsIn b n at) n i 4 leads-long h (lead-is h ∙ sym e ∙ f);
       names =
           w .names ∙ ap (λ (l : List ℕ). named && allBelow bound l) (cell-front h)
           ∙ ap (λ (q : Bool). named && q) (below-append bound (cellAt b (at + 20 * i)) (drop (4 * (i + 1)) (cellsIn b n at)))
@@ -138,12 +115,12 @@ module _ (b : List ℕ) (at n bound i : ℕ) where
     }
 
     pub looking-off : (x : ℕ) → i < n → x ≡ wordAt true b (at + 20 * i) → x ≢ 4 → 15 ≡ first (cellRows b bound n at)
-    unfolding stride cellRows first
-    looking-off x h e f = sym (rw (w .leads ∙ marks-off true b at n i 4 x h e f) refl)
+    unfolding cellRows first
+    looking-off x h e f = sym (rw (w .leads ∙ each-off (leadsIn b n at) n i 4 leads-long h (λ q. f (e ∙ sym (lead-is h) ∙ q))) refl)
 
     module _ (d : n ≤ i) where
-      led-all : same (marksAt true b at n) (replicate n 4) ≡ true
-      led-all = w .leads ∙ marks-end true b at n i 4 d
+      led-all : same (leadsIn b n at) (replicate n 4) ≡ true
+      led-all = w .leads ∙ each-end (leadsIn b n at) n i 4 leads-long d
 
       named-all : allBelow bound (cellsIn b n at) ≡ named
       named-all =
@@ -160,11 +137,11 @@ module _ (b : List ℕ) (at n bound i : ℕ) where
 -- ---- `judge`
 
 module _ (b : List ℕ) (p n c t : ℕ) {r : ℕ} (q : r ≡ first (cellRows b p n c)) where
-  by-cells : {A : Type 0} → (same (marksAt true b c n) (replicate n 4) ≡ false → A) → (same (marksAt true b c n) (replicate n 4) ≡ true → r ≡ cond (not (allBelow p (cellsIn b n c))) 8 0 → A) → A
+  by-cells : {A : Type 0} → (same (leadsIn b n c) (replicate n 4) ≡ false → A) → (same (leadsIn b n c) (replicate n 4) ≡ true → r ≡ cond (not (allBelow p (cellsIn b n c))) 8 0 → A) → A
   unfolding cellRows first
-  by-cells {A} off on-way = go (same (marksAt true b c n) (replicate n 4)) refl
+  by-cells {A} off on-way = go (same (leadsIn b n c) (replicate n 4)) refl
     where
-      go : (s : Bool) → same (marksAt true b c n) (replicate n 4) ≡ s → A
+      go : (s : Bool) → same (leadsIn b n c) (replicate n 4) ≡ s → A
       go true e = on-way e (q ∙ rw e refl)
       go false e = off e
 
@@ -177,15 +154,15 @@ module _ (b : List ℕ) (p n c t : ℕ) {r : ℕ} (q : r ≡ first (cellRows b p
   row-1 e = by-cells (λ h. sym (rw h refl)) (λ h f. absurd (low (allBelow p (cellsIn b n c)) (sym f ∙ e)))
 
   module _ (d : r ≢ 15) where
-    led-here : (same (marksAt true b c n) (replicate n 4) ≡ true) × (r ≡ cond (not (allBelow p (cellsIn b n c))) 8 0)
+    led-here : (same (leadsIn b n c) (replicate n 4) ≡ true) × (r ≡ cond (not (allBelow p (cellsIn b n c))) 8 0)
     unfolding cellRows first
     led-here = by-cells (λ h. absurd (d (q ∙ rw h refl))) (λ h f. (h, f))
 
-    pub row-2 : same (marksAt false b t n) (replicate n 10) ≡ false → 15 ≡ first (bodyRows b p n c t)
+    pub row-2 : same (typesIn b n t) (replicate n 10) ≡ false → 15 ≡ first (bodyRows b p n c t)
     unfolding bodyRows first
     row-2 h = sym (rw (led-here .0, h) refl)
 
-    module _ (h2 : same (marksAt false b t n) (replicate n 10) ≡ true) where
+    module _ (h2 : same (typesIn b n t) (replicate n 10) ≡ true) where
       pub row-3 : most < p → 4 ≡ first (bodyRows b p n c t)
       unfolding bodyRows first
       row-3 h = sym (rw (led-here .0, h2, lt-ltb most p h) refl)
@@ -225,8 +202,8 @@ module _ (b : List ℕ) (at n : ℕ) (y₀ y : List ℕ) (i : ℕ) (w : Reading 
 -- ---- what is known of a file that is not refused by itself
 
 pub record Good (b : List ℕ) (p n c t : ℕ) : Type 0 where
-  pub led : same (marksAt true b c n) (replicate n 4) ≡ true
-  pub typed : same (marksAt false b t n) (replicate n 10) ≡ true
+  pub led : same (leadsIn b n c) (replicate n 4) ≡ true
+  pub typed : same (typesIn b n t) (replicate n 10) ≡ true
   pub few-points : p ≤ most
   pub few-cells : n ≤ most
   pub names : allBelow p (cellsIn b n c) ≡ true
@@ -279,7 +256,7 @@ as-thirteen new lent = refl
 body-numbers : (b : List ℕ) (p n c t r : ℕ) → r ≡ first (bodyRows b p n c t) → r ≢ 13
 unfolding bodyRows first
 body-numbers b p n c t r e f =
-    by-tests (not (same (marksAt true b c n) (replicate n 4))) (not (same (marksAt false b t n) (replicate n 10))) (ltb most p) (ltb most n) (not (allBelow p (cellsIn b n c))) (sym f ∙ e)
+    by-tests (not (same (leadsIn b n c) (replicate n 4))) (not (same (typesIn b n t) (replicate n 10))) (ltb most p) (ltb most n) (not (allBelow p (cellsIn b n c))) (sym f ∙ e)
   where
     by-tests : (q s u v z : Bool) → _≡_ {A = ℕ} 13 (cond q 15 (cond s 15 (cond u 4 (cond v 4 (cond z 8 0))))) → ⊥
     by-tests true s u v z h = omega arith

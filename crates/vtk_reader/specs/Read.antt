@@ -19,19 +19,18 @@ use Rattle.vtk_layout.specs.declared.Located.the-variants as located
 
 -- ---- what the blocks say
 
--- the words that lead n cells, or n words of a block
-unfoldable pub stride : Bool → ℕ → ℕ
-stride true i = 20 * i
-stride false i = 4 * i
-
-unfoldable pub marksAt : Bool → List ℕ → ℕ → ℕ → List ℕ
-marksAt led b at n = listOf (λ i. wordAt true b (at + stride led i)) n
+-- the words that lead n cells
+unfoldable pub leadsIn : List ℕ → ℕ → ℕ → List ℕ
+leadsIn b n c = listOf (λ i. wordAt true b (c + 20 * i)) n
 
 abbrev pub pointsIn : List ℕ → ℕ → ℕ → List ℕ
 pointsIn b p a = wordsAt true false b a (3 * p)
 
 abbrev pub cellsIn : List ℕ → ℕ → ℕ → List ℕ
 cellsIn b n c = wordsAt true true b c (4 * n)
+
+abbrev pub typesIn : List ℕ → ℕ → ℕ → List ℕ
+typesIn b n t = wordsAt true false b t n
 
 -- the component numbers are those that the writer gives
 abbrev pub rightNumbers : List ℕ → ℕ → ℕ → ℕ → Bool
@@ -42,8 +41,8 @@ rightNumbers b n c d = same (wordsAt true false b d n) (componentNumbers (cellsI
 -- by the file alone, where its layout is found: 15 for a cell not led by a four or not of type 10
 unfoldable pub bodyRows : List ℕ → ℕ → ℕ → ℕ → ℕ → List Row
 bodyRows b p n c t =
-    15 when not (same (marksAt true b c n) (replicate n 4))
-    ∷ 15 when not (same (marksAt false b t n) (replicate n 10))
+    15 when not (same (leadsIn b n c) (replicate n 4))
+    ∷ 15 when not (same (typesIn b n t) (replicate n 10))
     ∷ 4 when ltb most p
     ∷ 4 when ltb most n
     ∷ 8 when not (allBelow p (cellsIn b n c))
@@ -53,8 +52,8 @@ bodyRows b p n c t =
 unfoldable pub readRows : Located → List ℕ → List ℕ → List ℕ → List ℕ → List Row
 readRows (located.Stopped number) b x y w = number when true ∷ []
 readRows (located.Found p n a c t d) b x y w =
-    15 when not (same (marksAt true b c n) (replicate n 4))
-    ∷ 15 when not (same (marksAt false b t n) (replicate n 10))
+    15 when not (same (leadsIn b n c) (replicate n 4))
+    ∷ 15 when not (same (typesIn b n t) (replicate n 10))
     ∷ 4 when ltb most p
     ∷ 4 when ltb most n
     ∷ 8 when not (allBelow p (cellsIn b n c))
@@ -108,4 +107,4 @@ cellGot y i b at =
 
 -- the rows that look at the cells
 unfoldable pub cellRows : List ℕ → ℕ → ℕ → ℕ → List Row
-cellRows b p n c = 15 when not (same (marksAt true b c n) (replicate n 4)) ∷ 8 when not (allBelow p (cellsIn b n c)) ∷ []
+cellRows b p n c = 15 when not (same (leadsIn b n c) (replicate n 4)) ∷ 8 when not (allBelow p (cellsIn b n c)) ∷ []

@@ -4,27 +4,12 @@ use vtk_layout::Located;
 ghost use mathlib.Core.Path.{_≡_};
 ghost use mathlib.Core.Bool.{true, false, _&&_};
 ghost use Prim.Native.Nat.{ℕ, _+_, _*_, _≤_, _<_};
-ghost use lib.ListN.{length, replicate};
+ghost use lib.ListN.{length};
 ghost use Rattle.lists.specs.Ladder.{first};
-ghost use Rattle.lists.specs.Tables.{allBelow, same};
+ghost use Rattle.lists.specs.Tables.{allBelow};
 ghost use Rattle.vtk_layout.specs.declared.Located.the-variants as located;
 ghost use Rattle.vtk_layout.specs.Layout.{Laid, locatedOf};
-ghost use Rattle.vtk_reader.specs.Read.{marksAt, cellsIn, cellAt, cellGot, cellRows, bodyRows, LoadDone};
-
-// Whether n words from a place on all have this value.
-fn all_are(file: &[u8], at: usize, n: usize, value: u32) -> bool
-    requires { ⌜ at + 4 * n ≤ length (now file) ⌝ }
-    ensures { λ r. ⌜ r ≡ same (marksAt false (now (file .entry)) at n) (replicate n value) ⌝ }
-{
-    let mut i: usize = 0;
-    while i < n {
-        if words::word(file, at + 4 * i, true) != value {
-            return false;
-        }
-        i += 1;
-    }
-    true
-}
+ghost use Rattle.vtk_reader.specs.Read.{cellsIn, cellAt, cellGot, cellRows, bodyRows, LoadDone};
 
 // Whether the numbers of a cell are below the bound too, where those before are; `at` is the place of the word that leads it.
 fn still_below(file: &[u8], at: usize, bound: usize, earlier: bool) -> bool
@@ -75,7 +60,7 @@ fn judge(file: &[u8], p: usize, n: usize, cells: usize, types: usize) -> u32
     if number == 15 {
         return 15;
     }
-    if !all_are(file, types, n, 10) {
+    if !words::all_are(file, types, true, n, 10) {
         return 15;
     }
     if 536_870_912 < p {

@@ -1,18 +1,20 @@
 -- Laws of words in bytes. Assumes nothing.
 use mathlib.Core.Path.{_≡_, refl, sym, ap, ap₂, _∙_}
-use mathlib.Core.Bool.{Bool, true, false}
+use mathlib.Core.Logic.{_≢_}
+use mathlib.Core.Bool.{Bool, true, false, _&&_, and-true}
 use mathlib.Core.List.{List, [], _∷_, _++_, append-assoc, append-nil}
 use Prim.Native.Nat.{ℕ, zero, suc, _+_, _-_, _*_, _/_, _%_, _≤_, _<_}
 use native.Mathlib.Nat.{add-zero, not-suc-le-zero}
 use native.Mathlib.Numerals.{add-one}
 use native.Mathlib.Omega.{arith}
-use lib.ListN.{length, getD, set, take, drop, length-append, length-set}
+use lib.ListN.{length, getD, set, take, drop, replicate, length-append, length-set}
 use lib.Seq.{sets, length-sets, drop-cons, drop-length, drop-drop, take-add, getD-append-add}
-use Rattle.lists.specs.Tables.{listOf, allBelow}
+use Rattle.lists.specs.Tables.{listOf, allBelow, same}
 use Rattle.lists.proofs.Cases.{below-set}
-use Rattle.lists.proofs.Lent.{below-at, below-on, below-off, below-end}
-use Rattle.lists.proofs.Listing.{list-is, list-at, length-list}
+use Rattle.lists.proofs.Lent.{below-at, all-below, below-on, below-off, below-end}
+use Rattle.lists.proofs.Listing.{list-is, list-at, length-list, each-on, each-off, each-end}
 use Rattle.lists.proofs.Parts.{sets-append}
+use Rattle.lists.proofs.Tests.{falls, stays}
 use Rattle.words.specs.Words.{bytes4, bytesOf, four, wordAt, placeOf, wordsAt, spanOf}
 
 pub length-four : (big : Bool) (x : ℕ) → length (bytes4 big x) ≡ 4
@@ -51,6 +53,26 @@ pub length-words : (big led : Bool) (b : List ℕ) (at n : ℕ) → length (word
 unfolding wordsAt
 length-words big led b at n = length-list (λ k. wordAt big b (at + 4 * placeOf led k)) n
 
+-- words of bytes are small
+word-small : (big : Bool) (b : List ℕ) (at : ℕ) → allBelow 256 b ≡ true → at + 4 ≤ length b → wordAt big b at < 4294967296
+unfolding wordAt
+word-small big b at s h = go big
+  where
+    q : (i : ℕ) → i < length b → getD b i 0 < 256
+    q = below-at 256 b s
+
+    go : (t : Bool) → four t (getD b at 0) (getD b (at + 1) 0) (getD b (at + 2) 0) (getD b (at + 3) 0) < 4294967296
+    go false = omega (arith, q at (omega arith), q (at + 1) (omega arith), q (at + 2) (omega arith), q (at + 3) (omega arith))
+    go true = omega (arith, q at (omega arith), q (at + 1) (omega arith), q (at + 2) (omega arith), q (at + 3) (omega arith))
+
+pub words-small : (big : Bool) (b : List ℕ) (at n : ℕ) → allBelow 256 b ≡ true → at + 4 * n ≤ length b → allBelow 4294967296 (wordsAt big false b at n) ≡ true
+unfolding placeOf
+words-small big b at n s h =
+    all-below 4294967296 (wordsAt big false b at n)
+    (λ i k.
+    let j : i < n = omega (arith, length-words big false b at n) in
+    omega (arith, words-at big false b at n i j, word-small big b (at + 4 * i) s (omega arith)))
+
 -- ---- the loop that reads words
 
 pub record Reading (big led : Bool) (b : List ℕ) (at : ℕ) (o₀ o : List ℕ) (i : ℕ) : Type 0 where
@@ -88,6 +110,29 @@ module _ (big led : Bool) (b : List ℕ) (at n bound i : ℕ) where
 
   pub scan-end : n ≤ i → allBelow bound (drop i (wordsAt big led b at n)) ≡ true
   scan-end h = below-end bound i (wordsAt big led b at n) (omega (arith, length-words big led b at n))
+
+-- ---- the loop that compares words with one value
+
+module _ (big : Bool) (b : List ℕ) (at n x : ℕ) where
+  -- what is still to be compared, beside what was found
+  abbrev pub comparing : Bool → ℕ → Bool
+  comparing all i = all && same (drop i (wordsAt big false b at n)) (drop i (replicate n x))
+
+  module _ (i : ℕ) (all : Bool) where
+    here : i < n → getD (wordsAt big false b at n) i 0 ≡ wordAt big b (at + 4 * i)
+    unfolding placeOf
+    here h = words-at big false b at n i h
+
+    pub are-not : {all′ : Bool} {y : ℕ} → i < n → y ≡ wordAt big b (at + 4 * i) → y ≢ x → all′ ≡ false → comparing all i ≡ comparing all′ (i + 1)
+    are-not h e d =
+        falls all (same (drop (i + 1) (wordsAt big false b at n)) (drop (i + 1) (replicate n x)))
+        (each-off (wordsAt big false b at n) n i x (length-words big false b at n) h (λ q. d (e ∙ sym (here h) ∙ q)))
+
+    pub are-still : {all′ : Bool} {y : ℕ} → i < n → y ≡ wordAt big b (at + 4 * i) → y ≡ x → all′ ≡ all → comparing all i ≡ comparing all′ (i + 1)
+    are-still h e d = stays all (each-on (wordsAt big false b at n) n i x (length-words big false b at n) h (here h ∙ sym e ∙ d))
+
+    pub are-all : n ≤ i → comparing all i ≡ all
+    are-all h = ap (λ (t : Bool). all && t) (each-end (wordsAt big false b at n) n i x (length-words big false b at n) h) ∙ and-true all
 
 -- ---- the loop that writes words: what is still to be written makes up the whole
 

@@ -1,10 +1,11 @@
 // Words of four bytes, the low byte first or the high one, in a file's bytes.
 ghost use mathlib.Core.Path.{_≡_};
+ghost use mathlib.Core.Bool.{false};
 ghost use Prim.Native.Nat.{ℕ, _+_, _*_, _≤_, _<_};
-ghost use lib.ListN.{length};
+ghost use lib.ListN.{length, replicate};
 ghost use lib.Seq.{sets};
-ghost use Rattle.lists.specs.Tables.{allBelow};
-ghost use Rattle.words.specs.Words.{bytes4, bytesOf, wordAt, placeOf, wordsAt, spanOf};
+ghost use Rattle.lists.specs.Tables.{allBelow, same};
+ghost use Rattle.words.specs.Words.{bytes4, bytesOf, four, wordAt, placeOf, wordsAt, spanOf};
 
 fn wide(x: u8) -> u32
     ensures { λ r. ⌜ (r ≡ x) × (r < 256) ⌝ }
@@ -12,19 +13,22 @@ fn wide(x: u8) -> u32
     x as u32
 }
 
-// The word at a place.
+// The number that four bytes are, the low byte first.
+fn low_first(a: u8, b: u8, c: u8, d: u8) -> u32
+    ensures { λ r. ⌜ r ≡ four false a b c d ⌝ }
+{
+    wide(a) + 256 * wide(b) + 65_536 * wide(c) + 16_777_216 * wide(d)
+}
+
+// The word at a place. The order of the bytes is asked before they are read, so that they are one load.
 pub fn word(file: &[u8], at: usize, big: bool) -> u32
     requires { ⌜ at + 4 ≤ length (now file) ⌝ }
     ensures { λ r. ⌜ r ≡ wordAt big (now (file .entry)) at ⌝ }
 {
-    let a = wide(file[at]);
-    let b = wide(file[at + 1]);
-    let c = wide(file[at + 2]);
-    let d = wide(file[at + 3]);
     if big {
-        return d + 256 * c + 65_536 * b + 16_777_216 * a;
+        return low_first(file[at + 3], file[at + 2], file[at + 1], file[at]);
     }
-    a + 256 * b + 65_536 * c + 16_777_216 * d
+    low_first(file[at], file[at + 1], file[at + 2], file[at + 3])
 }
 
 // The word number i of those from a place on; `led` says that each four of them follow one that is passed over.
@@ -65,6 +69,22 @@ pub fn all_below(file: &[u8], at: usize, big: bool, led: bool, n: usize, bound: 
     true
 }
 
+// Whether n words from a place on are all x. No early return, so that many are compared at once.
+pub fn all_are(file: &[u8], at: usize, big: bool, n: usize, x: u32) -> bool
+    requires { ⌜ at + 4 * n ≤ length (now file) ⌝ }
+    ensures { λ r. ⌜ r ≡ same (wordsAt big false (now (file .entry)) at n) (replicate n x) ⌝ }
+{
+    let mut all = true;
+    let mut i: usize = 0;
+    while i < n {
+        if word(file, at + 4 * i, big) != x {
+            all = false;
+        }
+        i += 1;
+    }
+    all
+}
+
 // Stores a word at a place.
 pub fn put_word(file: &mut [u8], at: usize, big: bool, x: u32)
     requires { ⌜ at + 4 ≤ length (now file) ⌝ }
@@ -95,6 +115,18 @@ pub fn put_words(words: &[u32], file: &mut [u8], at: usize, big: bool)
     let mut i: usize = 0;
     while i < words.len() {
         put_word(file, at + 4 * i, big, words[i]);
+        i += 1;
+    }
+}
+
+// Stores one word n times from a place on.
+pub fn put_same(file: &mut [u8], at: usize, big: bool, n: usize, x: u32)
+    requires { ⌜ at + 4 * n ≤ length (now file) ⌝ }
+    ensures { λ _. ⌜ now (file .exit) ≡ sets (now (file .entry)) at (bytesOf big (replicate n x)) ⌝ }
+{
+    let mut i: usize = 0;
+    while i < n {
+        put_word(file, at + 4 * i, big, x);
         i += 1;
     }
 }

@@ -2,11 +2,11 @@
 -- are those of nine points a leaf (same-vertices), which are sorted and counted by computation.
 use mathlib.Core.Path.{_≡_, refl, ap, sym, _∙_, fun-ext}
 use mathlib.Core.Bool.{Bool, true, false}
-use mathlib.Core.List.{List, [], _∷_, map}
+use mathlib.Core.List.{List, [], _∷_}
 use Prim.Native.Nat.{ℕ, zero, suc, _+_, _-_}
 use native.Mathlib.Omega.{arith}
 use lib.Dec.{eqb}
-use lib.ListN.{length, getD, replicate}
+use lib.ListN.{length, replicate, length-map}
 use Rattle.octants.specs.Oct.{Axis, ax, ay, az, Pos, pos, Tree, any, Closed}
 use Rattle.octants.proofs.Near.{clash}
 use Rattle.octants.specs.Table.{off, slot, depth, read}
@@ -59,15 +59,11 @@ whole-keys : length (distinctSorted (leafKeys 1 six whole)) ≡ 559
 unfolding boxDown down below keysOf keyOf insert distinctSorted
 whole-keys = refl
 
-length-map : (f : ℕ → Pos) (l : List ℕ) → length (map f l) ≡ length l
-length-map f [] = refl
-length-map f (x ∷ l) = ap suc (length-map f l)
-
 pub octree-six : (length (gridCells 1 six unsplit) ≡ 2592) × (length (gridVertices 1 six unsplit) ≡ 559)
 unfolding gridCells gridVertices vertexKeys
 octree-six = (
   ap (λ (t : Tree). length (cells 1 six t)) reads-whole ∙ whole-cells,
-  length-map tripleOf (distinctSorted (flat keyOf (cells 1 six (read six 1 unsplit))))
+  length-map (distinctSorted (flat keyOf (cells 1 six (read six 1 unsplit)))) tripleOf
       ∙ ap length (sym (same-distinct (flat keyOf (cells 1 six (read six 1 unsplit))) (leafKeys 1 six (read six 1 unsplit)) (same-vertices unsplit 6 6 6 1 taken)))
       ∙ ap (λ (t : Tree). length (distinctSorted (leafKeys 1 six t))) reads-whole ∙ whole-keys,
 )

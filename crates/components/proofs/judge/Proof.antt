@@ -1,8 +1,9 @@
 -- `components::judge` meets its contract. Assumes nothing.
 use mathlib.Core.Path.{_≡_, refl, sym, ap, _∙_}
+use native.Mathlib.Omega.{arith}
 use borrow.Author.Tests.{lt-ltb, le-ltb}
 use Rattle.lists.specs.Ladder.{first}
-use Rattle.lists.proofs.Rows.{stops, goes-on, lengths-proper}
+use Rattle.lists.proofs.Rows.{stops, goes-on, lengths-proper, few-points}
 use Rattle.lists.proofs.Tests.{failed, passed}
 use Rattle.components.specs.Step.{meshRows}
 use borrow.Author.Needs.{needs}
@@ -27,6 +28,9 @@ returns-2 : tie.Need-returns-2
 unfolding meshRows first
 returns-2 c = rw (goes-on _ _ (lengths-proper _ _) (c .before .before .judge-lengths .ensures) (c .before .if1 .left), lt-ltb _ _ (c .if2 .taken))
 
+cast-all-below : tie.Need-cast-all-below
+cast-all-below c = omega (arith, few-points _ _ (sym (c .before .before .judge-lengths .ensures) ∙ c .before .if1 .left))
+
 all-below-requires : tie.Need-all-below-requires
 all-below-requires c κs = search needs
 
@@ -46,6 +50,7 @@ judge-spec =
     returns
     mul-if2
     returns-2
+    cast-all-below
     all-below-requires
     returns-3
     returns-4)

@@ -1,8 +1,10 @@
+use mathlib.Core.Path.{sym, _∙_}
+use native.Mathlib.Omega.{arith}
 use Rattle.lists.specs.Ladder.{first}
 use Rattle.lists.proofs.Rows.{stops, goes-on}
 use Rattle.lists.proofs.Tests.{failed, passed}
 use Rattle.groups.specs.Judged.{crossedRows}
-use Rattle.groups.proofs.Judging.{sizes-proper}
+use Rattle.groups.proofs.Judging.{sizes-proper, sizes-few}
 use borrow.Author.Needs.{needs}
 use Rattle.groups.proofs.judge.Statement.{statement}
 use Rattle.groups.proofs.judge.Tie as tie
@@ -26,6 +28,9 @@ returns-2 : tie.Need-returns-2
 unfolding crossedRows first
 returns-2 c = rw (goes-on _ _ (sizes-proper _ _ _ _ _) (c .before .before .before .judge-sizes .ensures) (c .before .before .if1 .left), failed (c .before .all-at-most .ensures) (c .if2 .taken))
 
+cast-all-below : tie.Need-cast-all-below
+cast-all-below c = omega (arith, sizes-few _ _ _ _ _ (sym (c .before .before .before .judge-sizes .ensures) ∙ c .before .before .if1 .left))
+
 all-below-requires : tie.Need-all-below-requires
 all-below-requires c κs = search needs
 
@@ -45,6 +50,7 @@ judge-spec =
     returns
     all-at-most-requires
     returns-2
+    cast-all-below
     all-below-requires
     returns-3
     returns-4)

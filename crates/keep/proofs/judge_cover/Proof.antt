@@ -1,12 +1,13 @@
 -- `keep::judge_cover` meets its contract. Assumes nothing.
 use mathlib.Core.List.{[], _∷_}
 use mathlib.Core.Path.{_≡_, refl, sym, ap, _∙_}
+use native.Mathlib.Omega.{arith}
 use borrow.Author.Tests.{eq-eqb, ne-eqb}
 use Rattle.lists.specs.Ladder.{first}
 use Rattle.lists.proofs.Rows.{stops, goes-on}
 use Rattle.lists.proofs.Tests.{failed, passed}
 use Rattle.groups.specs.Judged.{sizeRows}
-use Rattle.groups.proofs.Judging.{sizes-proper}
+use Rattle.groups.proofs.Judging.{sizes-proper, sizes-few}
 use Rattle.keep.specs.Step.{coverRows}
 use borrow.Author.Needs.{needs}
 use Rattle.keep.proofs.judge_cover.Statement.{statement}
@@ -50,6 +51,9 @@ returns-5 : tie.Need-returns-5
 unfolding coverRows first
 returns-5 c = rw (passed (c .before .before .before .before .before .before .before .before .is-size .ensures) (c .before .before .before .before .before .before .before .if1 .left), goes-on _ _ (sizes-proper _ _ _ _ _) (c .before .before .before .before .before .before .judge-sizes .ensures) (c .before .before .before .before .before .if2 .left), eq-eqb _ _ (c .before .before .before .before .if3 .left), passed (c .before .before .before .all-at-most .ensures) (c .before .before .if4 .left), failed (c .before .all-at-most2 .ensures) (c .if5 .taken))
 
+cast-all-below : tie.Need-cast-all-below
+cast-all-below c = omega (arith, sizes-few _ _ _ _ _ (sym (c .before .before .before .before .before .before .judge-sizes .ensures) ∙ c .before .before .before .before .before .if2 .left))
+
 all-below-requires : tie.Need-all-below-requires
 all-below-requires c κs = search needs
 
@@ -74,6 +78,7 @@ judge-cover-spec =
     returns-4
     all-at-most-requires-2
     returns-5
+    cast-all-below
     all-below-requires
     returns-6
     returns-7)
