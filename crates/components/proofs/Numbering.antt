@@ -7,7 +7,6 @@ use native.Mathlib.Omega.{arith}
 use lib.ListN.{length, getD, take, drop}
 use lib.Seq.{length-take-le}
 use Rattle.lists.specs.Tables.{cellsOf, most}
-use Rattle.lists.proofs.Parts.{same-front}
 use Rattle.links.specs.Vertices.{Cells}
 use Rattle.components.specs.Numbers.{componentNumbers, Askable, NumberedAt, Linked}
 use Rattle.components.proofs.Counting.{Counting, counting-start, counting-step, k-le, k-number}
@@ -22,15 +21,22 @@ pub numbering-start : {C w : List ℕ} {n : ℕ} → Linked C w n → Numbering 
 numbering-start {C} {w} {n} l = record {
   cells = l .cells;
   long = l .long;
-  counting = counting-start C (take n w) (drop n w) [] n (length-take-le n w (omega (arith, l .long))) (l .zeros) (l .joint);
+  counting = counting-start C (take n w) (drop n w) [] n (length-take-le n w (omega (arith, l .long))) (l .zeros) (l .joint) (l .level);
 }
 
+-- the first vertex of a cell is a point
+pub first-in : {C : List ℕ} {n i v : ℕ} → Cells C n → i < cellsOf C → v ≡ getD C (i * 4) 0 → v < n
+first-in {C} {n} {i} c h e = omega (arith, c .names (i * 4) (omega (arith, c .whole)))
+
 module _ {C w : List ℕ} {n count i : ℕ} (l : Numbering C w n count i) (h : i < cellsOf C) (v : ℕ) (ev : v ≡ getD C (i * 4) 0) where
+  v-in : v < n
+  v-in = first-in (l .cells) h ev
+
   pub asks-for : Askable n w v count
   asks-for = record {
     long = l .long;
     forest = l .counting .forest;
-    v-in = omega (arith, l .cells .names (i * 4) (omega (arith, l .cells .whole)));
+    v-in = v-in;
     room = omega (arith, l .counting .below, l .cells .few);
   }
 
@@ -38,19 +44,17 @@ module _ {C w : List ℕ} {n count i : ℕ} (l : Numbering C w n count i) (h : i
   count-small = omega (arith, l .counting .below, l .cells .few)
 
   module _ (w′ : List ℕ) (k : ℕ) (kept : length w′ ≡ length w) (a : NumberedAt n w w′ v count k) where
-    fronts : length (take n w′) ≡ length (take n w)
-    fronts = same-front w w′ n (omega (arith, l .long)) kept
-
     pub number-is : k ≡ getD (componentNumbers C (cellsOf C)) i 0
-    number-is = k-number C (take n w) (drop n w) [] [] n count i (l .counting) h (take n w′) (drop n w′) v (a .root) k ev fronts (a .rooted) (a .number) (l .cells .whole)
+    number-is = k-number C (take n w) (drop n w) [] [] n count i (l .counting) h (drop n w′) v k ev v-in (a .number) (l .cells .whole)
 
     pub number-small : k < most
-    number-small =
-        omega (arith, count-small, k-le C (take n w) (drop n w) [] [] n count i (l .counting) h (take n w′) (drop n w′) v (a .root) k ev fronts (a .rooted) (a .number))
+    number-small = omega (arith, count-small, k-le C (take n w) (drop n w) [] [] n count i (l .counting) h (drop n w′) v k ev v-in (a .number))
 
     pub numbering-on : (count′ : ℕ) → ((k ≡ count) × (count′ ≡ count + 1)) ⊎ ((k ≢ count) × (count′ ≡ count)) → Numbering C w′ n count′ (i + 1)
     numbering-on count′ c = record {
       cells = l .cells;
       long = kept ∙ l .long;
-      counting = counting-step C (take n w) (drop n w) [] [] n count i (l .counting) h (take n w′) (drop n w′) v (a .root) k ev fronts (a .rooted) (a .number) count′ c;
+      counting =
+          subst (λ (P : List ℕ). Counting C P (drop n w′) [] [] n count′ (i + 1)) (sym (a .parents))
+          (counting-step C (take n w) (drop n w) [] [] n count i (l .counting) h (drop n w′) v k ev v-in (a .number) count′ c);
     }

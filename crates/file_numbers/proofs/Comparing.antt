@@ -8,16 +8,11 @@ use native.Mathlib.Omega.{arith}
 use lib.ListN.{length, getD, drop}
 use Rattle.lists.specs.Tables.{same, cellsOf}
 use Rattle.lists.proofs.Listing.{same-on, same-off, same-end}
-use Rattle.lists.proofs.Appearing.{length-numbers}
 use Rattle.words.specs.Words.{wordAt, placeOf, wordsAt, spanOf}
 use Rattle.words.proofs.Words.{in-span, words-at, length-words}
-use Rattle.links.specs.Labels.{labelAt}
 use Rattle.components.specs.Numbers.{componentNumbers, Askable, NumberedAt, Linked}
+use Rattle.components.proofs.Patterns.{length-components}
 use Rattle.components.proofs.Numbering.{Numbering, numbering-start, asks-for, number-is, numbering-on}
-
-pub length-components : (C : List ℕ) (n : ℕ) → length (componentNumbers C n) ≡ n
-unfolding componentNumbers
-length-components C n = length-numbers (labelAt C [] n) n
 
 -- the cells in a file, as many as there are words for
 pub cells-in : (big led : Bool) (b : List ℕ) (at cells : ℕ) → cellsOf (wordsAt big led b at (4 * cells)) ≡ cells

@@ -3,10 +3,10 @@ ghost use mathlib.Core.Path.{_≡_};
 ghost use mathlib.Core.Bool.{false};
 ghost use mathlib.Core.List.{[]};
 ghost use Prim.Native.Nat.{ℕ, _+_, _*_, _≤_};
-ghost use lib.ListN.{length, replicate};
+ghost use lib.ListN.{length, take};
 ghost use lib.Seq.{sets};
-ghost use Rattle.lists.specs.Tables.{same, cellsOf};
-ghost use Rattle.words.specs.Words.{bytesOf, wordAt, placeOf, wordsAt, spanOf};
+ghost use Rattle.lists.specs.Tables.{same, allBelow, cellsOf};
+ghost use Rattle.words.specs.Words.{bytesOf, wordsAt, spanOf};
 ghost use Rattle.links.specs.Forest.{Forest};
 ghost use Rattle.links.specs.Vertices.{Cells, JoinedCell, Joint};
 ghost use Rattle.components.specs.Numbers.{componentNumbers, Linked, Fits};
@@ -38,27 +38,25 @@ fn link(file: &[u8], at: usize, big: bool, led: bool, cells: usize, parent: &mut
     }
 }
 
-// Links the points of the cells in the first n entries of the work table, and clears the numbers behind them.
-fn prepare(file: &[u8], at: usize, big: bool, led: bool, cells: usize, work: &mut [u32], n: usize)
+// Links the points of the cells in the first n entries of the work table, and tells whether all points are in the group of point 0.
+fn prepare(
+    file: &[u8],
+    at: usize,
+    big: bool,
+    led: bool,
+    cells: usize,
+    work: &mut [u32],
+    n: usize,
+) -> bool
     requires { ⌜ Cells (wordsAt big led (now file) at (4 * cells)) n × (length (now work) ≡ 2 * n) × (at + spanOf led (4 * cells) ≤ length (now file)) ⌝ }
-    ensures { λ _. ⌜ Linked (wordsAt big led (now (file .entry)) at (4 * cells)) (now (work .exit)) n ⌝ }
+    ensures { λ one. ⌜ Linked (wordsAt big led (now (file .entry)) at (4 * cells)) (now (work .exit)) n × (one ≡ allBelow 1 (take n (now (work .exit)))) ⌝ }
 {
     link(file, at, big, led, cells, &mut work[..n]);
-    lists::zero(&mut work[n..]);
+    components::settle(work, n)
 }
 
-// The word number i of those from a place on. The order of the bytes is asked before they are read, so that they are one load in a loop.
-fn word_of(file: &[u8], at: usize, big: bool, led: bool, i: usize) -> u32
-    requires { ⌜ at + 4 * placeOf led i + 4 ≤ length (now file) ⌝ }
-    ensures { λ r. ⌜ r ≡ wordAt big (now (file .entry)) (at + 4 * placeOf led i) ⌝ }
-{
-    if big {
-        return words::word_of(file, at, true, led, i);
-    }
-    words::word_of(file, at, false, led, i)
-}
-
-// Whether the words at `numbers` are the numbers of the cells by the first appearance of their groups.
+// Whether the words at `numbers` are the numbers of the cells by the first appearance of their groups. Where `one` tells that all points
+// are in one group, every number is 0.
 fn compare(
     file: &[u8],
     at: usize,
@@ -68,16 +66,20 @@ fn compare(
     cells: usize,
     work: &mut [u32],
     n: usize,
+    one: bool,
 ) -> bool
-    requires { ⌜ Linked (wordsAt big led (now file) at (4 * cells)) (now work) n × (at + spanOf led (4 * cells) ≤ length (now file)) × (numbers + 4 * cells ≤ length (now file)) ⌝ }
+    requires { ⌜ Linked (wordsAt big led (now file) at (4 * cells)) (now work) n × (at + spanOf led (4 * cells) ≤ length (now file)) × (numbers + 4 * cells ≤ length (now file)) × (one ≡ allBelow 1 (take n (now work))) ⌝ }
     ensures { λ r. ⌜ r ≡ same (wordsAt big false (now (file .entry)) numbers cells) (componentNumbers (wordsAt big led (now (file .entry)) at (4 * cells)) cells) ⌝ }
 {
+    if one {
+        return words::all_are(file, numbers, big, cells, 0);
+    }
     let mut count: usize = 0;
     let mut i: usize = 0;
     while i < cells {
-        let v = lists::wide(word_of(file, at, big, led, i * 4));
+        let v = lists::wide(words::word_of(file, at, big, led, i * 4));
         let k = components::number_at(work, n, v, count);
-        if lists::wide(word_of(file, numbers, big, false, i)) != k {
+        if lists::wide(words::word_of(file, numbers, big, false, i)) != k {
             return false;
         }
         if k == count {
@@ -102,18 +104,31 @@ pub fn numbers_right(
     ensures { λ r. ⌜ Told big led (now (file .entry)) at numbers cells (now (work .entry)) (now (work .exit)) r ⌝ }
 {
     let n = work.len() / 2;
-    prepare(file, at, big, led, cells, work, n);
-    let right = compare(file, at, numbers, big, led, cells, work, n);
+    let one = prepare(file, at, big, led, cells, work, n);
+    let right = compare(file, at, numbers, big, led, cells, work, n, one);
     lists::zero(work);
     right
 }
 
-// Stores the numbers of the cells by the first appearance of their groups as words from a place on.
-fn put_each(cells: &[u32], file: &mut [u8], at: usize, big: bool, work: &mut [u32], n: usize)
-    requires { ⌜ Linked (now cells) (now work) n × (at + 4 * cellsOf (now cells) ≤ length (now file)) ⌝ }
+// Stores the numbers of the cells by the first appearance of their groups as words from a place on. Where `one` tells that all points are
+// in one group, every number is 0.
+fn put_each(
+    cells: &[u32],
+    file: &mut [u8],
+    at: usize,
+    big: bool,
+    work: &mut [u32],
+    n: usize,
+    one: bool,
+)
+    requires { ⌜ Linked (now cells) (now work) n × (at + 4 * cellsOf (now cells) ≤ length (now file)) × (one ≡ allBelow 1 (take n (now work))) ⌝ }
     ensures { λ _. ⌜ now (file .exit) ≡ sets (now (file .entry)) at (bytesOf big (componentNumbers (now (cells .entry)) (cellsOf (now (cells .entry))))) ⌝ }
 {
     let many = cells.len() / 4;
+    if one {
+        words::put_same(file, at, big, many, 0);
+        return;
+    }
     let mut count: usize = 0;
     let mut i: usize = 0;
     while i < many {
@@ -133,7 +148,7 @@ pub fn put_numbers(cells: &[u32], file: &mut [u8], at: usize, big: bool, work: &
     ensures { λ _. ⌜ Noted big (now (cells .entry)) at (now (file .entry)) (now (file .exit)) (now (work .entry)) (now (work .exit)) ⌝ }
 {
     let n = work.len() / 2;
-    components::prepare(cells, work, n);
-    put_each(cells, file, at, big, work, n);
+    let one = components::prepare(cells, work, n);
+    put_each(cells, file, at, big, work, n, one);
     lists::zero(work);
 }

@@ -1,6 +1,6 @@
 //! Both sides of each step, timed.
 
-use crate::clock::{least, timed};
+use crate::clock::timed;
 use crate::inputs::{contents as contents_of, Input};
 use crate::table::{FileTimes, Table};
 use lifted::lent::MeshOracle;
@@ -99,9 +99,11 @@ pub fn on_input(input: &Input, table: &mut Table) {
     mesh.representatives(table);
     mesh.keep(table, true);
     mesh.keep(table, false);
-    let numbered = mesh.components(table);
+    mesh.components(table);
     mesh.one_piece(table);
-    mesh.files(table, numbered);
+    for format in [Format::Mesh, Format::Vtk] {
+        mesh.file(format, table);
+    }
 }
 
 fn thousands(n: usize) -> String {
@@ -274,8 +276,7 @@ impl<'a> Meshed<'a> {
         }
     }
 
-    /// What our numbering of the components takes.
-    fn components(&self, table: &mut Table) -> f64 {
+    fn components(&self, table: &mut Table) {
         let (points, cells) = self.counts();
         let mesh = self.volume_mesh();
         let mut call = ComponentsCall {
@@ -285,7 +286,7 @@ impl<'a> Meshed<'a> {
         };
         let rust = || timed(|| mesh.connected_components()).1;
         let ours = || answered(&mut call);
-        table.row("components", self.name, &self.size, rust, ours)
+        table.row("components", self.name, &self.size, rust, ours);
     }
 
     fn one_piece(&self, table: &mut Table) {
@@ -300,23 +301,21 @@ impl<'a> Meshed<'a> {
         });
     }
 
-    fn files(&self, table: &mut Table, components: f64) {
-        for format in [Format::Mesh, Format::Vtk] {
-            self.file(format, table, components);
-        }
-    }
-
     /// The least that a writer or a reader in Rust must do: number the components and move the bytes.
-    fn file(&self, format: Format, table: &mut Table, components: f64) {
+    fn file(&self, format: Format, table: &mut Table) {
         let (points, cells) = self.counts();
         let mesh = self.volume_mesh();
         let file = format.encode(self.input.mesh());
-        let mut copy = vec![1; file.len()];
-        let mut copied = || timed(|| copy.copy_from_slice(black_box(&file))).1;
-        let copying = least(5, &mut copied);
         let bytes = thousands(file.len());
         let size = format!("{}, {bytes} bytes", self.size);
-        let mut rust = || timed(|| mesh.connected_components()).1 + copied();
+        let mut copied = vec![1; file.len()];
+        let mut copy = f64::INFINITY;
+        let mut rust = || {
+            let numbered = timed(|| mesh.connected_components()).1;
+            let moved = timed(|| copied.copy_from_slice(black_box(&file))).1;
+            copy = copy.min(moved);
+            numbered + moved
+        };
         let mut write = WriteCall {
             format,
             input: self.input.clone(),
@@ -333,14 +332,9 @@ impl<'a> Meshed<'a> {
         let (writer, reader) = (format.writer(), format.reader());
         let wrote = table.row(writer, self.name, &size, &mut rust, || answered(&mut write));
         let loaded = table.row(reader, self.name, &size, &mut rust, || answered(&mut read));
+        let bytes = &bytes;
         for (step, ours) in [(writer, wrote), (reader, loaded)] {
-            let times = FileTimes {
-                bytes: &bytes,
-                copy: copying,
-                components,
-                ours,
-            };
-            table.in_copies(step, self.name, &times);
+            table.in_copies(step, self.name, &FileTimes { bytes, copy, ours });
         }
     }
 }

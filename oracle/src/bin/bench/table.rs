@@ -56,15 +56,14 @@ impl Table {
         least_ours
     }
 
-    /// What a file step takes beyond our numbering of the components, in copies of the file's bytes.
+    /// What a file step takes in copies of the file's bytes.
     pub fn in_copies(&mut self, step: &str, input: &str, file: &FileTimes) {
         let row = format!(
-            "| {step} | {input} | {} | {} | {} | {} | {:.1} |",
+            "| {step} | {input} | {} | {} | {} | {:.1} |",
             file.bytes,
             milliseconds(file.copy),
-            milliseconds(file.components),
             milliseconds(file.ours),
-            (file.ours - file.components) / file.copy
+            file.ours / file.copy
         );
         told(&mut self.copies, row);
     }
@@ -91,12 +90,10 @@ impl Table {
     }
 }
 
-/// A file step: the file's bytes in words, what copying them takes, what our numbering of the
-/// components takes, and what the step takes.
+/// A file step: the file's bytes in words, what copying them takes, and what the step takes.
 pub struct FileTimes<'a> {
     pub bytes: &'a str,
     pub copy: f64,
-    pub components: f64,
     pub ours: f64,
 }
 
@@ -128,10 +125,10 @@ const COLUMNS: &str = "| step | input | size | Rust, ms | ours, ms | times faste
 const COPIES: &str = "
 ### Files, in copies of their bytes
 
-What a writer or a reader takes beyond the component numbers, which both work out: its time less that of `sf_components` on the same mesh, in units of one copy of the file.
+What a writer or a reader takes in all, the component numbers included, which both work out, in units of one copy of the file's bytes (`copy_from_slice`), taken turn by turn with ours.
 
-| step | input | bytes | copy, ms | components, ms | ours, ms | copies |
-|---|---|---:|---:|---:|---:|---:|
+| step | input | bytes | copy, ms | ours, ms | copies |
+|---|---|---:|---:|---:|---:|
 ";
 
 const CONTENTS: &str = "
