@@ -5,13 +5,14 @@ use mathlib.Core.Bool.{Bool, true, false}
 use mathlib.Core.List.{List, []}
 use Prim.Native.Nat.{ℕ, _+_, _*_, _/_, _≤_, _<_}
 use native.Mathlib.Omega.{arith}
-use lib.ListN.{length, getD, drop}
-use Rattle.lists.specs.Tables.{same, cellsOf}
+use lib.ListN.{length, getD, take, drop, replicate}
+use Rattle.lists.specs.Tables.{same, allBelow, cellsOf}
 use Rattle.lists.proofs.Listing.{same-on, same-off, same-end}
 use Rattle.words.specs.Words.{wordAt, placeOf, wordsAt, spanOf}
 use Rattle.words.proofs.Words.{in-span, words-at, length-words}
 use Rattle.components.specs.Numbers.{componentNumbers, Askable, NumberedAt, Linked}
 use Rattle.components.proofs.Patterns.{length-components}
+use Rattle.components.proofs.Counting.{alike-numbers}
 use Rattle.components.proofs.Numbering.{Numbering, numbering-start, asks-for, number-is, numbering-on}
 
 -- the cells in a file, as many as there are words for
@@ -83,3 +84,7 @@ module _ (big led : Bool) (b : List ℕ) (at numbers cells : ℕ) where
 
     pub comparing-end : cells ≤ i → true ≡ same W N
     comparing-end h = sym (l .left ∙ same-end W N i (omega (arith, length-words big false b numbers cells)) (omega (arith, length-components C cells)))
+
+  -- the numbers where all points are in one group
+  pub alike-told : {w : List ℕ} {n : ℕ} {r : Bool} → Linked C w n → allBelow 1 (take n w) ≡ true → r ≡ same W (replicate cells 0) → r ≡ same W N
+  alike-told {w} {n} l z e = e ∙ ap (same W) (sym (ap (componentNumbers C) (sym (cells-in big led b at cells)) ∙ alike-numbers C w n l z ∙ ap (λ (m : ℕ). replicate m 0) (cells-in big led b at cells)))
