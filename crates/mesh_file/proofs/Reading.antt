@@ -20,7 +20,8 @@ use Rattle.words.proofs.Words.{length-words}
 use Rattle.links.specs.Vertices.{Cells}
 use Rattle.components.specs.Numbers.{componentNumbers, Fits}
 use Rattle.file_numbers.specs.Stored.{Told}
-use Rattle.file_numbers.proofs.Comparing.{length-components, cells-in}
+use Rattle.components.proofs.Patterns.{length-components}
+use Rattle.file_numbers.proofs.Comparing.{cells-in}
 use Rattle.mesh_file.specs.File.{countAt, endOf, Standing, second, third, end, pointCount, cellCount, pointsIn, cellsIn, numbersIn}
 use Rattle.mesh_file.specs.Read.{rightNumbers, sectionRows, fileRows, shortOf, loadedOf, ReadDone, Sound, Matched}
 use Rattle.mesh_file.specs.declared.Loaded.{Loaded}

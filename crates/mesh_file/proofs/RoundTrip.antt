@@ -18,7 +18,7 @@ use Rattle.words.proofs.Words.{length-four, length-bytes, length-words, word-by
 use Rattle.lists.proofs.Appearing.{place-le, noted-old, length-noted, number-next}
 use Rattle.links.specs.Labels.{labelAt}
 use Rattle.components.specs.Numbers.{componentNumbers}
-use Rattle.file_numbers.proofs.Comparing.{length-components}
+use Rattle.components.proofs.Patterns.{length-components}
 use Rattle.mesh_file.specs.File.{section, encode, countAt, endOf, wordsIn, Standing, second, third, end, pointCount, cellCount, pointsIn, cellsIn, numbersIn}
 use Rattle.mesh_file.specs.Read.{rightNumbers}
 use Rattle.mesh_file.proofs.Sections.{Laid}

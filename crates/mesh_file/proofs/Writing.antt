@@ -11,7 +11,7 @@ use Rattle.lists.proofs.Parts.{sets-append, sets-whole}
 use Rattle.words.specs.Words.{bytes4, bytesOf}
 use Rattle.words.proofs.Words.{length-four, length-bytes}
 use Rattle.components.specs.Numbers.{componentNumbers}
-use Rattle.file_numbers.proofs.Comparing.{length-components}
+use Rattle.components.proofs.Patterns.{length-components}
 use Rattle.mesh_file.specs.File.{section, encode}
 use Rattle.mesh_file.specs.Writer.{Storable, Placed}
 use Rattle.mesh_file.specs.Write.{bytesFor}

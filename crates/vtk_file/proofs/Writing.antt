@@ -16,7 +16,7 @@ use Rattle.lists.proofs.Parts.{sets-append, sets-whole}
 use Rattle.words.specs.Words.{bytes4, bytesOf}
 use Rattle.words.proofs.Words.{length-bytes, bytes-append, Writing, writing-start, writing-on, writing-done}
 use Rattle.components.specs.Numbers.{componentNumbers}
-use Rattle.file_numbers.proofs.Comparing.{length-components}
+use Rattle.components.proofs.Patterns.{length-components}
 use Rattle.decimal.specs.Digits.{digits}
 use Rattle.vtk_layout.specs.Layout.{versionLine, ourTitle, feed, datasetLines, floatLine, cellsWord, space, typesWord, dataWord, scalarLines, written}
 use Rattle.vtk_layout.specs.File.{ledWord, led, typesOf, vtkFile}

@@ -18,7 +18,8 @@ use Rattle.lists.proofs.Listing.{length-list, list-at, list-is, list-same, same
 use Rattle.words.specs.Words.{bytesOf, wordAt, placeOf, wordsAt}
 use Rattle.words.proofs.Words.{length-bytes, length-words, words-at, words-small, words-bytes, words-there}
 use Rattle.components.specs.Numbers.{componentNumbers}
-use Rattle.file_numbers.proofs.Comparing.{length-components, cells-in}
+use Rattle.components.proofs.Patterns.{length-components}
+use Rattle.file_numbers.proofs.Comparing.{cells-in}
 use Rattle.mesh_file.specs.Read.{shortOf, loadedNumber}
 use Rattle.mesh_file.specs.declared.Loaded.{Loaded}
 use Rattle.mesh_file.specs.declared.Loaded.the-variants as loaded
