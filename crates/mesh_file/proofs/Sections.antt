@@ -118,9 +118,13 @@ module _ (b : List ℕ) (s c : ℕ) (es : s ≡ second b) (ec : c ≡ countAt b 
   pub cells-read : wordsAt false false b (s + 4) (4 * c) ≡ cellsIn b
   cells-read = ap₂ (λ (x y : ℕ). wordsAt false false b (x + 4) (4 * y)) es count-second
 
+  pub cells-room : Laid b → s + 4 + 16 * c ≤ length b
+  unfolding endOf
+  cells-room l = omega (arith, l .cells .fits, count-second)
+
   pub cells-span : Laid b → (k : ℕ) → k ≡ 4 * c → s + 4 + spanOf false k ≤ length b
-  unfolding spanOf endOf
-  cells-span l k e = omega (arith, l .cells .fits, count-second)
+  unfolding spanOf
+  cells-span l k e = omega (arith, cells-room l)
 
 -- ---- the file by itself
 

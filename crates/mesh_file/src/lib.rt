@@ -130,7 +130,7 @@ fn judge_file(file: &[u8]) -> u32
     if 536_870_912 < cells {
         return 4;
     }
-    if !words::all_below(file, second + 4, false, false, 4 * cells, points) {
+    if !words::all_below(file, second + 4, false, cells, points as u32) {
         return 8;
     }
     0

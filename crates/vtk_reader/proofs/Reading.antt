@@ -1,21 +1,23 @@
 -- The ways out of `read_vtk` and of its parts. Assumes nothing.
-use mathlib.Core.Path.{_≡_, refl, sym, ap, ap₂, subst, _∙_}
+use mathlib.Core.Path.{_≡_, refl, sym, ap, subst, _∙_}
 use mathlib.Core.Logic.{_≢_}
-use mathlib.Core.Bool.{Bool, true, false, cond, not, _&&_, and-assoc, and-true, true≢false}
+use mathlib.Core.Bool.{Bool, true, false, cond, not, _&&_, and-true}
 use mathlib.Core.List.{List, [], _∷_, _++_}
-use Prim.Native.Nat.{ℕ, suc, _+_, _*_, _/_, _≤_, _<_}
+use Prim.Native.Nat.{ℕ, _+_, _*_, _/_, _≤_, _<_, min}
+use native.Mathlib.Nat.{min-eq-left}
 use native.Mathlib.Omega.{arith}
 use borrow.Author.Tests.{lt-ltb, le-ltb, ne-eqb, ltb-false, not-false}
 use lib.Dec.{ltb}
 use lib.ListN.{length, getD, set, take, drop, replicate}
-use lib.Seq.{length-take-le, drop-cons}
+use lib.Seq.{length-take-le}
 use Rattle.lists.specs.Ladder.{first, proper}
 use Rattle.lists.specs.Tables.{most, cellsOf, allBelow, same, allFrom, on, among}
 use Rattle.lists.proofs.Rows.{clear, unless-none, unless-some}
-use Rattle.lists.proofs.Lent.{below-at, below-append, below-end, as-lent, as-new, as-lent-below}
+use Rattle.lists.proofs.Lent.{below-at, below-end, as-lent, as-new, as-lent-below}
 use Rattle.lists.proofs.Listing.{length-list, list-at, each-on, each-off, each-end}
+use Rattle.lists.proofs.Tests.{falls, stays}
 use Rattle.words.specs.Words.{wordAt, placeOf, wordsAt, spanOf}
-use Rattle.words.proofs.Words.{length-words, words-at, Reading, reading-on}
+use Rattle.words.proofs.Words.{length-words, cell-below, Reading, reading-on}
 use Rattle.links.specs.Vertices.{Cells}
 use Rattle.components.specs.Numbers.{Fits}
 use Rattle.file_numbers.specs.Stored.{Told}
@@ -27,36 +29,9 @@ use Rattle.mesh_file.specs.declared.Loaded.the-variants.{Done, Refused, Short}
 use Rattle.vtk_layout.specs.Layout.{Laid}
 use Rattle.vtk_layout.specs.declared.Located.{Located}
 use Rattle.vtk_layout.specs.declared.Located.the-variants as located
-use Rattle.vtk_reader.specs.Read.{leadsIn, typesIn, pointsIn, cellsIn, bodyRows, loadedBy, pointsBy, cellsBy, workBy, LoadDone, cellAt, cellGot, cellRows}
+use Rattle.vtk_reader.specs.Read.{leadsIn, typesIn, pointsIn, cellsIn, bodyRows, loadedBy, pointsBy, cellsBy, workBy, LoadDone, cellGot, cellRows}
 
 -- ---- the loop that looks at the cells
-
-pub below-none : (b : List ℕ) (at bound : ℕ) (t : Bool) → not t ≡ true → false ≡ t && allBelow bound (cellAt b at)
-below-none b at bound true h = absurd (true≢false (sym h))
-below-none b at bound false h = refl
-
--- the four tests of a cell
-module _ (b : List ℕ) (at bound : ℕ) (t : Bool) (h : not t ≡ false) where
-  so-far : t ≡ true
-  so-far = not-false t h
-
-  pub below-1 : bound ≤ wordAt true b (at + 4) → false ≡ t && allBelow bound (cellAt b at)
-  unfolding cellAt allBelow
-  below-1 l = sym (rw (so-far, le-ltb _ _ l) refl)
-
-  module _ (l1 : wordAt true b (at + 4) < bound) where
-    pub below-2 : bound ≤ wordAt true b (at + 8) → false ≡ t && allBelow bound (cellAt b at)
-    unfolding cellAt allBelow
-    below-2 l = sym (rw (so-far, lt-ltb _ _ l1, le-ltb _ _ l) refl)
-
-    module _ (l2 : wordAt true b (at + 8) < bound) where
-      pub below-3 : bound ≤ wordAt true b (at + 12) → false ≡ t && allBelow bound (cellAt b at)
-      unfolding cellAt allBelow
-      below-3 l = sym (rw (so-far, lt-ltb _ _ l1, lt-ltb _ _ l2, le-ltb _ _ l) refl)
-
-      pub below-4 : wordAt true b (at + 12) < bound → (x : ℕ) → x ≡ wordAt true b (at + 16) → ltb x bound ≡ t && allBelow bound (cellAt b at)
-      unfolding cellAt allBelow
-      below-4 l3 x e = sym (rw (so-far, lt-ltb _ _ l1, lt-ltb _ _ l2, lt-ltb _ _ l3, e) (and-true (ltb (wordAt true b (at + 16)) bound)))
 
 -- what is still to be looked at
 pub record Looking (b : List ℕ) (at n bound : ℕ) (named : Bool) (i : ℕ) : Type 0 where
@@ -75,44 +50,29 @@ module _ (b : List ℕ) (at n bound i : ℕ) where
   unfolding leadsIn
   lead-is h = list-at (λ k. wordAt true b (at + 20 * k)) n i h
 
-  cell-word : (k : ℕ) (j : ℕ) → 4 * i + k < 4 * n → at + 4 * (4 * i + k + (4 * i + k) / 4 + 1) ≡ j → getD (cellsIn b n at) (4 * i + k) 0 ≡ wordAt true b j
+  cell-led : i < n → allBelow bound (drop (4 * i) (cellsIn b n at))
+      ≡ allBelow bound (wordsAt true false b (at + 20 * i + 4) 4) && allBelow bound (drop (4 * (i + 1)) (cellsIn b n at))
   unfolding placeOf
-  cell-word k j h e = words-at true true b at (4 * n) (4 * i + k) h ∙ ap (wordAt true b) e
-
-  cell-front : i < n → drop (4 * i) (cellsIn b n at) ≡ cellAt b (at + 20 * i) ++ drop (4 * (i + 1)) (cellsIn b n at)
-  unfolding cellAt
-  cell-front h =
-      let z : 4 * i ≡ 4 * i + 0 = omega arith in
-      let e : suc (4 * i + 3) ≡ 4 * (i + 1) = omega arith in
-      let s0 : suc (4 * i + 0) ≡ 4 * i + 1 = omega arith in
-      let s1 : suc (4 * i + 1) ≡ 4 * i + 2 = omega arith in
-      let s2 : suc (4 * i + 2) ≡ 4 * i + 3 = omega arith in
-      ap (λ (k : ℕ). drop k (cellsIn b n at)) z
-      ∙ next 0 (omega arith)
-      ∙ ap₂ (λ (x : ℕ) (k : ℕ). x ∷ drop k (cellsIn b n at)) (cell-word 0 (at + 20 * i + 4) (omega arith) (omega arith)) s0
-      ∙ ap (λ (l : List ℕ). wordAt true b (at + 20 * i + 4) ∷ l)
-      (next 1 (omega arith)
-      ∙ ap₂ (λ (x : ℕ) (k : ℕ). x ∷ drop k (cellsIn b n at)) (cell-word 1 (at + 20 * i + 8) (omega arith) (omega arith)) s1
-      ∙ ap (λ (l : List ℕ). wordAt true b (at + 20 * i + 8) ∷ l)
-      (next 2 (omega arith)
-      ∙ ap₂ (λ (x : ℕ) (k : ℕ). x ∷ drop k (cellsIn b n at)) (cell-word 2 (at + 20 * i + 12) (omega arith) (omega arith)) s2
-      ∙ ap (λ (l : List ℕ). wordAt true b (at + 20 * i + 12) ∷ l)
-      (next 3 (omega arith) ∙ ap₂ (λ (x : ℕ) (k : ℕ). x ∷ drop k (cellsIn b n at)) (cell-word 3 (at + 20 * i + 16) (omega arith) (omega arith)) e)))
-    where
-      next : (k : ℕ) → 4 * i + k < 4 * n → drop (4 * i + k) (cellsIn b n at) ≡ getD (cellsIn b n at) (4 * i + k) 0 ∷ drop (suc (4 * i + k)) (cellsIn b n at)
-      next k l = drop-cons (cellsIn b n at) (4 * i + k) 0 (omega (arith, length-words true true b at (4 * n)))
+  cell-led h = cell-below true true b at n i (at + 20 * i + 4) h (λ k l. omega arith) bound
 
   module _ (named : Bool) (w : Looking b at n bound named i) where
-    pub looking-on : (x : ℕ) (t : Bool) → i < n → x ≡ wordAt true b (at + 20 * i) → x ≡ 4 → t ≡ named && allBelow bound (cellAt b (at + 20 * i))
-        → Looking b at n bound t (i + 1)
-    looking-on x t h e f g = record {
-      leads = w .leads ∙ each-on (leadsIn b n at) n i 4 leads-long h (lead-is h ∙ sym e ∙ f);
-      names =
-          w .names ∙ ap (λ (l : List ℕ). named && allBelow bound l) (cell-front h)
-          ∙ ap (λ (q : Bool). named && q) (below-append bound (cellAt b (at + 20 * i)) (drop (4 * (i + 1)) (cellsIn b n at)))
-          ∙ sym (and-assoc named (allBelow bound (cellAt b (at + 20 * i))) (allBelow bound (drop (4 * (i + 1)) (cellsIn b n at))))
-          ∙ ap (λ (q : Bool). q && allBelow bound (drop (4 * (i + 1)) (cellsIn b n at))) (sym g);
-    }
+    module _ {x : ℕ} (h : i < n) (e : x ≡ wordAt true b (at + 20 * i)) (f : x ≡ 4) where
+      leads-on : same (leadsIn b n at) (replicate n 4) ≡ same (drop (i + 1) (leadsIn b n at)) (drop (i + 1) (replicate n 4))
+      leads-on = w .leads ∙ each-on (leadsIn b n at) n i 4 leads-long h (lead-is h ∙ sym e ∙ f)
+
+      pub looking-on : {t : Bool} → allBelow bound (wordsAt true false b (at + 20 * i + 4) 4) ≡ true → t ≡ named → Looking b at n bound t (i + 1)
+      looking-on p q = record {
+        leads = leads-on;
+        names = w .names ∙ stays named (cell-led h ∙ ap (λ (u : Bool). u && allBelow bound (drop (4 * (i + 1)) (cellsIn b n at))) p) q;
+      }
+
+      pub looking-past : {t : Bool} → allBelow bound (wordsAt true false b (at + 20 * i + 4) 4) ≡ false → t ≡ false → Looking b at n bound t (i + 1)
+      looking-past p q = record {
+        leads = leads-on;
+        names =
+            w .names
+            ∙ falls named (allBelow bound (drop (4 * (i + 1)) (cellsIn b n at))) (cell-led h ∙ ap (λ (u : Bool). u && allBelow bound (drop (4 * (i + 1)) (cellsIn b n at))) p) q;
+      }
 
     pub looking-off : (x : ℕ) → i < n → x ≡ wordAt true b (at + 20 * i) → x ≢ 4 → 15 ≡ first (cellRows b bound n at)
     unfolding cellRows first
@@ -136,8 +96,8 @@ module _ (b : List ℕ) (at n bound i : ℕ) where
 
 -- ---- `judge`
 
-module _ (b : List ℕ) (p n c t : ℕ) {r : ℕ} (q : r ≡ first (cellRows b p n c)) where
-  by-cells : {A : Type 0} → (same (leadsIn b n c) (replicate n 4) ≡ false → A) → (same (leadsIn b n c) (replicate n 4) ≡ true → r ≡ cond (not (allBelow p (cellsIn b n c))) 8 0 → A) → A
+module _ (b : List ℕ) (p m n c t : ℕ) {r : ℕ} (q : r ≡ first (cellRows b m n c)) where
+  by-cells : {A : Type 0} → (same (leadsIn b n c) (replicate n 4) ≡ false → A) → (same (leadsIn b n c) (replicate n 4) ≡ true → r ≡ cond (not (allBelow m (cellsIn b n c))) 8 0 → A) → A
   unfolding cellRows first
   by-cells {A} off on-way = go (same (leadsIn b n c) (replicate n 4)) refl
     where
@@ -151,10 +111,10 @@ module _ (b : List ℕ) (p n c t : ℕ) {r : ℕ} (q : r ≡ first (cellRows b p
 
   pub row-1 : r ≡ 15 → 15 ≡ first (bodyRows b p n c t)
   unfolding bodyRows first
-  row-1 e = by-cells (λ h. sym (rw h refl)) (λ h f. absurd (low (allBelow p (cellsIn b n c)) (sym f ∙ e)))
+  row-1 e = by-cells (λ h. sym (rw h refl)) (λ h f. absurd (low (allBelow m (cellsIn b n c)) (sym f ∙ e)))
 
   module _ (d : r ≢ 15) where
-    led-here : (same (leadsIn b n c) (replicate n 4) ≡ true) × (r ≡ cond (not (allBelow p (cellsIn b n c))) 8 0)
+    led-here : (same (leadsIn b n c) (replicate n 4) ≡ true) × (r ≡ cond (not (allBelow m (cellsIn b n c))) 8 0)
     unfolding cellRows first
     led-here = by-cells (λ h. absurd (d (q ∙ rw h refl))) (λ h f. (h, f))
 
@@ -172,9 +132,12 @@ module _ (b : List ℕ) (p n c t : ℕ) {r : ℕ} (q : r ≡ first (cellRows b p
         unfolding bodyRows first
         row-4 h = sym (rw (led-here .0, h2, le-ltb most p h3, lt-ltb most n h) refl)
 
-        pub row-5 : n ≤ most → r ≡ first (bodyRows b p n c t)
+        pub row-5 : n ≤ most → m ≡ min p 4294967295 → r ≡ first (bodyRows b p n c t)
         unfolding bodyRows first
-        row-5 h = led-here .1 ∙ sym (rw (led-here .0, h2, le-ltb most p h3, le-ltb most n h) refl)
+        row-5 h e =
+            let f : p ≤ 4294967295 = omega arith in
+            led-here .1 ∙ ap (λ (k : ℕ). cond (not (allBelow k (cellsIn b n c))) 8 0) (e ∙ min-eq-left f)
+            ∙ sym (rw (led-here .0, h2, le-ltb most p h3, le-ltb most n h) refl)
 
 pub led-span : (n : ℕ) → spanOf true (4 * n) ≡ 20 * n
 unfolding spanOf

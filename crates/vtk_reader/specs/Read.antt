@@ -97,10 +97,7 @@ vtkLoadedOf b x y w = loadedBy (locatedOf b) b x y w
 
 -- ---- what the parts of the code promise
 
--- the numbers of a cell whose leading word is at a place, and a table in which they were stored
-unfoldable pub cellAt : List ℕ → ℕ → List ℕ
-cellAt b at = wordAt true b (at + 4) ∷ wordAt true b (at + 8) ∷ wordAt true b (at + 12) ∷ wordAt true b (at + 16) ∷ []
-
+-- a table in which the numbers of a cell were stored, whose leading word is at a place
 unfoldable pub cellGot : List ℕ → ℕ → List ℕ → ℕ → List ℕ
 cellGot y i b at =
     set (set (set (set y i (wordAt true b (at + 4))) (i + 1) (wordAt true b (at + 8))) (i + 2) (wordAt true b (at + 12))) (i + 3) (wordAt true b (at + 16))

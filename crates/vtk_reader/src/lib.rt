@@ -2,39 +2,27 @@
 use mesh_file::Loaded;
 use vtk_layout::Located;
 ghost use mathlib.Core.Path.{_≡_};
-ghost use mathlib.Core.Bool.{true, false, _&&_};
-ghost use Prim.Native.Nat.{ℕ, _+_, _*_, _≤_, _<_};
+ghost use Prim.Native.Nat.{_+_, _*_, _≤_, min};
 ghost use lib.ListN.{length};
 ghost use Rattle.lists.specs.Ladder.{first};
-ghost use Rattle.lists.specs.Tables.{allBelow};
 ghost use Rattle.vtk_layout.specs.declared.Located.the-variants as located;
 ghost use Rattle.vtk_layout.specs.Layout.{Laid, locatedOf};
-ghost use Rattle.vtk_reader.specs.Read.{cellsIn, cellAt, cellGot, cellRows, bodyRows, LoadDone};
+ghost use Rattle.vtk_reader.specs.Read.{cellsIn, cellGot, cellRows, bodyRows, LoadDone};
 
-// Whether the numbers of a cell are below the bound too, where those before are; `at` is the place of the word that leads it.
-fn still_below(file: &[u8], at: usize, bound: usize, earlier: bool) -> bool
-    requires { ⌜ at + 20 ≤ length (now file) ⌝ }
-    ensures { λ r. ⌜ r ≡ earlier && allBelow bound (cellAt (now (file .entry)) at) ⌝ }
+// A count as a word, the greatest word where it does not fit.
+fn clipped(count: usize) -> u32
+    ensures { λ r. ⌜ r ≡ min count 4294967295 ⌝ }
 {
-    if !earlier {
-        return false;
+    if 4_294_967_295 < count {
+        return 4_294_967_295;
     }
-    if bound <= lists::wide(words::word(file, at + 4, true)) {
-        return false;
-    }
-    if bound <= lists::wide(words::word(file, at + 8, true)) {
-        return false;
-    }
-    if bound <= lists::wide(words::word(file, at + 12, true)) {
-        return false;
-    }
-    lists::wide(words::word(file, at + 16, true)) < bound
+    count as u32
 }
 
-// The number that n cells are refused with: 15 where one is not led by a four, 8 where one names a point not there, or 0.
-fn judge_cells(file: &[u8], at: usize, n: usize, p: usize) -> u32
+// The number that n cells are refused with: 15 where one is not led by a four, 8 where one names a number not below the bound, or 0.
+fn judge_cells(file: &[u8], at: usize, n: usize, bound: u32) -> u32
     requires { ⌜ at + 20 * n ≤ length (now file) ⌝ }
-    ensures { λ r. ⌜ r ≡ first (cellRows (now (file .entry)) p n at) ⌝ }
+    ensures { λ r. ⌜ r ≡ first (cellRows (now (file .entry)) bound n at) ⌝ }
 {
     let mut named = true;
     let mut i: usize = 0;
@@ -42,7 +30,9 @@ fn judge_cells(file: &[u8], at: usize, n: usize, p: usize) -> u32
         if words::word(file, at + 20 * i, true) != 4 {
             return 15;
         }
-        named = still_below(file, at + 20 * i, p, named);
+        if !words::four_below(file, at + 20 * i + 4, true, bound) {
+            named = false;
+        }
         i += 1;
     }
     if named {
@@ -51,12 +41,13 @@ fn judge_cells(file: &[u8], at: usize, n: usize, p: usize) -> u32
     8
 }
 
-// The number that a file is refused with whose layout is found, before any table is looked at: 15, 4, 8, or 0.
+// The number that a file is refused with whose layout is found, before any table is looked at: 15, 4, 8, or 0. Where the points are too
+// many for a word the cells are compared with another bound, but the answer is then 15 or 4.
 fn judge(file: &[u8], p: usize, n: usize, cells: usize, types: usize) -> u32
     requires { ⌜ (cells + 20 * n ≤ length (now file)) × (types + 4 * n ≤ length (now file)) ⌝ }
     ensures { λ r. ⌜ r ≡ first (bodyRows (now (file .entry)) p n cells types) ⌝ }
 {
-    let number = judge_cells(file, cells, n, p);
+    let number = judge_cells(file, cells, n, clipped(p));
     if number == 15 {
         return 15;
     }

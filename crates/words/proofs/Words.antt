@@ -7,11 +7,12 @@ use Prim.Native.Nat.{ℕ, zero, suc, _+_, _-_, _*_, _/_, _%_, _≤_, _<_}
 use native.Mathlib.Nat.{add-zero, not-suc-le-zero}
 use native.Mathlib.Numerals.{add-one}
 use native.Mathlib.Omega.{arith}
-use lib.ListN.{length, getD, set, take, drop, replicate, length-append, length-set}
-use lib.Seq.{sets, length-sets, drop-cons, drop-length, drop-drop, take-add, getD-append-add}
+use lib.Dec.{ltb}
+use lib.ListN.{length, getD, set, take, drop, replicate, length-append, length-set, length-drop, take-append-drop}
+use lib.Seq.{sets, length-sets, length-take-le, drop-cons, drop-length, drop-drop, take-add, getD-take, getD-drop, getD-append-add}
 use Rattle.lists.specs.Tables.{listOf, allBelow, same}
 use Rattle.lists.proofs.Cases.{below-set}
-use Rattle.lists.proofs.Lent.{below-at, all-below, below-on, below-off, below-end}
+use Rattle.lists.proofs.Lent.{below-at, all-below, below-append, below-end}
 use Rattle.lists.proofs.Listing.{list-is, list-at, length-list, each-on, each-off, each-end}
 use Rattle.lists.proofs.Parts.{sets-append}
 use Rattle.lists.proofs.Tests.{falls, stays}
@@ -32,9 +33,6 @@ pub in-span : (led : Bool) (i n : ℕ) → i < n → 4 * placeOf led i + 4 ≤ s
 unfolding placeOf spanOf
 in-span false i n h = omega arith
 in-span true i n h = omega arith
-
-pub word-fits : (led : Bool) (at n i size : ℕ) → at + spanOf led n ≤ size → i < n → at + 4 * placeOf led i + 4 ≤ size
-word-fits led at n i size s h = omega (arith, in-span led i n h)
 
 pub led-place : (led : Bool) (i : ℕ) → led ≡ true → placeOf led i ≡ i + i / 4 + 1
 unfolding placeOf
@@ -96,20 +94,57 @@ module _ (big led : Bool) (b : List ℕ) (at : ℕ) (o₀ o : List ℕ) (i : ℕ
   unfolding wordsAt
   reading-done d = sym (list-is (λ k. wordAt big b (at + 4 * placeOf led k)) (length o₀) o (r .long) (λ k h. sym (r .got k (omega (arith, r .long)))))
 
--- ---- the loop that compares words with a bound
+-- ---- four words compared with a bound
 
-module _ (big led : Bool) (b : List ℕ) (at n bound i : ℕ) where
-  pub scan-on : (x : ℕ) → i < n → x ≡ wordAt big b (at + 4 * placeOf led i) → x < bound
-      → allBelow bound (drop i (wordsAt big led b at n)) ≡ allBelow bound (drop (i + 1) (wordsAt big led b at n))
-  scan-on x h e l =
-      below-on bound i (wordsAt big led b at n) (omega (arith, length-words big led b at n)) (omega (arith, words-at big led b at n i h))
+tests : (p q r s : Bool) → p && (q && (r && (s && true))) ≡ p && q && r && s
+tests true true true s = and-true s
+tests true true false s = refl
+tests true false r s = refl
+tests false q r s = refl
 
-  pub scan-off : (x : ℕ) → i < n → x ≡ wordAt big b (at + 4 * placeOf led i) → bound ≤ x → allBelow bound (drop i (wordsAt big led b at n)) ≡ false
-  scan-off x h e l =
-      below-off bound i (wordsAt big led b at n) (omega (arith, length-words big led b at n)) (omega (arith, words-at big led b at n i h))
+pub four-tests : (big : Bool) (b : List ℕ) (at bound : ℕ) {x y z w : ℕ} → x ≡ wordAt big b at → y ≡ wordAt big b (at + 4)
+    → z ≡ wordAt big b (at + 8) → w ≡ wordAt big b (at + 12) → allBelow bound (wordsAt big false b at 4) ≡ ltb x bound && ltb y bound && ltb z bound && ltb w bound
+unfolding wordsAt listOf placeOf allBelow
+four-tests big b at bound {x} {y} {z} {w} ex ey ez ew = rw (add-zero, ← ex, ← ey, ← ez, ← ew) (tests (ltb x bound) (ltb y bound) (ltb z bound) (ltb w bound))
 
-  pub scan-end : n ≤ i → allBelow bound (drop i (wordsAt big led b at n)) ≡ true
-  scan-end h = below-end bound i (wordsAt big led b at n) (omega (arith, length-words big led b at n))
+-- the words of cell i, of which the first is at a place, and those behind them
+module _ (big led : Bool) (b : List ℕ) (at n i place : ℕ) (h : i < n) (e : (k : ℕ) → k < 4 → at + 4 * placeOf led (4 * i + k) ≡ place + 4 * k) where
+  cell-words : take 4 (drop (4 * i) (wordsAt big led b at (4 * n))) ≡ wordsAt big false b place 4
+  unfolding wordsAt placeOf
+  cell-words =
+      let W : List ℕ = wordsAt big led b at (4 * n) in
+      sym
+      (list-is (λ k. wordAt big b (place + 4 * k)) 4 (take 4 (drop (4 * i) W))
+      (length-take-le 4 (drop (4 * i) W) (omega (arith, length-drop (4 * i) W, length-words big led b at (4 * n))))
+      (λ k l.
+      ap (wordAt big b) (sym (e k l)) ∙ sym (words-at big led b at (4 * n) (4 * i + k) (omega arith)) ∙ sym (getD-drop (4 * i) W k 0)
+      ∙ sym (getD-take 4 (drop (4 * i) W) k 0 l)))
+
+  pub cell-below : (bound : ℕ) → allBelow bound (drop (4 * i) (wordsAt big led b at (4 * n)))
+      ≡ allBelow bound (wordsAt big false b place 4) && allBelow bound (drop (4 * (i + 1)) (wordsAt big led b at (4 * n)))
+  cell-below bound =
+      let W : List ℕ = wordsAt big led b at (4 * n) in
+      let j : 4 * i + 4 ≡ 4 * (i + 1) = omega arith in
+      ap (allBelow bound) (sym (take-append-drop 4 (drop (4 * i) W))) ∙ below-append bound (take 4 (drop (4 * i) W)) (drop 4 (drop (4 * i) W))
+      ∙ ap₂ (λ (x y : List ℕ). allBelow bound x && allBelow bound y) cell-words (drop-drop 4 (4 * i) W ∙ ap (λ (k : ℕ). drop k W) j)
+
+-- ---- the loop that compares cells with a bound
+
+module _ (big : Bool) (b : List ℕ) (at n bound i : ℕ) where
+  cell-plain : i < n → allBelow bound (drop (4 * i) (wordsAt big false b at (4 * n)))
+      ≡ allBelow bound (wordsAt big false b (at + 16 * i) 4) && allBelow bound (drop (4 * (i + 1)) (wordsAt big false b at (4 * n)))
+  unfolding placeOf
+  cell-plain h = cell-below big false b at n i (at + 16 * i) h (λ k l. omega arith) bound
+
+  pub scan-on : i < n → allBelow bound (wordsAt big false b (at + 16 * i) 4) ≡ true
+      → allBelow bound (drop (4 * i) (wordsAt big false b at (4 * n))) ≡ allBelow bound (drop (4 * (i + 1)) (wordsAt big false b at (4 * n)))
+  scan-on h e = cell-plain h ∙ ap (λ (t : Bool). t && allBelow bound (drop (4 * (i + 1)) (wordsAt big false b at (4 * n)))) e
+
+  pub scan-off : i < n → allBelow bound (wordsAt big false b (at + 16 * i) 4) ≡ false → allBelow bound (drop (4 * i) (wordsAt big false b at (4 * n))) ≡ false
+  scan-off h e = cell-plain h ∙ ap (λ (t : Bool). t && allBelow bound (drop (4 * (i + 1)) (wordsAt big false b at (4 * n)))) e
+
+  pub scan-end : n ≤ i → allBelow bound (drop (4 * i) (wordsAt big false b at (4 * n))) ≡ true
+  scan-end h = below-end bound (4 * i) (wordsAt big false b at (4 * n)) (omega (arith, length-words big false b at (4 * n)))
 
 -- ---- the loop that compares words with one value
 
@@ -275,7 +310,7 @@ word-there big pre post x at e h =
 word-in : (big : Bool) (xs post : List ℕ) (i : ℕ) → allBelow 4294967296 xs ≡ true → i < length xs → wordAt big (bytesOf big xs ++ post) (4 * i) ≡ getD xs i 0
 word-in big xs post i s h =
     let d : xs ≡ take i xs ++ (getD xs i 0 ∷ drop (suc i) xs) = lib.Seq.split-at xs i 0 h in
-    let l : 4 * i ≡ length (bytesOf big (take i xs)) = omega (arith, length-bytes big (take i xs), lib.Seq.length-take-le i xs (omega arith)) in
+    let l : 4 * i ≡ length (bytesOf big (take i xs)) = omega (arith, length-bytes big (take i xs), length-take-le i xs (omega arith)) in
     ap (λ (t : List ℕ). wordAt big (bytesOf big t ++ post) (4 * i)) d
     ∙ ap (λ (t : List ℕ). wordAt big (t ++ post) (4 * i)) (bytes-append big (take i xs) (getD xs i 0 ∷ drop (suc i) xs))
     ∙ ap (λ (t : List ℕ). wordAt big t (4 * i)) (apart (bytesOf big (take i xs)))

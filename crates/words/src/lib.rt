@@ -54,14 +54,26 @@ pub fn get_words(file: &[u8], at: usize, big: bool, led: bool, table: &mut [u32]
     }
 }
 
-// Whether each of n words from a place on is below the bound.
-pub fn all_below(file: &[u8], at: usize, big: bool, led: bool, n: usize, bound: usize) -> bool
-    requires { ⌜ at + spanOf led n ≤ length (now file) ⌝ }
-    ensures { λ r. ⌜ r ≡ allBelow bound (wordsAt big led (now (file .entry)) at n) ⌝ }
+// Whether each of four words from a place on is below the bound. All are read first, so that they are compared at once.
+pub fn four_below(file: &[u8], at: usize, big: bool, bound: u32) -> bool
+    requires { ⌜ at + 16 ≤ length (now file) ⌝ }
+    ensures { λ r. ⌜ r ≡ allBelow bound (wordsAt big false (now (file .entry)) at 4) ⌝ }
+{
+    let a = word(file, at, big);
+    let b = word(file, at + 4, big);
+    let c = word(file, at + 8, big);
+    let d = word(file, at + 12, big);
+    a < bound && b < bound && c < bound && d < bound
+}
+
+// Whether each word of so many cells from a place on is below the bound.
+pub fn all_below(file: &[u8], at: usize, big: bool, cells: usize, bound: u32) -> bool
+    requires { ⌜ at + 16 * cells ≤ length (now file) ⌝ }
+    ensures { λ r. ⌜ r ≡ allBelow bound (wordsAt big false (now (file .entry)) at (4 * cells)) ⌝ }
 {
     let mut i: usize = 0;
-    while i < n {
-        if bound <= lists::wide(word_of(file, at, big, led, i)) {
+    while i < cells {
+        if !four_below(file, at + 16 * i, big, bound) {
             return false;
         }
         i += 1;

@@ -4,7 +4,7 @@ use Rattle.lists.specs.Tables.{allBelow}
 use Rattle.lists.proofs.Rows.{stops}
 use Rattle.lists.proofs.Tests.{failed, passed}
 use Rattle.mesh_file.specs.Read.{fileRows}
-use Rattle.mesh_file.proofs.Sections.{laid, count-second, cells-read, cells-span, file-1, file-2, file-3, file-4}
+use Rattle.mesh_file.proofs.Sections.{laid, count-second, cells-read, cells-room, file-1, file-2, file-3, file-4}
 use borrow.Author.Needs.{needs}
 use Rattle.mesh_file.proofs.judge_file.Statement.{statement}
 use Rattle.mesh_file.proofs.judge_file.Tie as tie
@@ -40,11 +40,11 @@ returns-3 c = file-2 _ (sym (c .before .before .before .before .before .before .
 add-all-below : tie.Need-add-all-below
 add-all-below c = let l = laid _ (sym (c .before .before .before .before .before .before .judge-sections .ensures) ∙ c .before .before .before .before .before .if1 .left) in omega (arith, l .cells .counted, c .before .before .end-of .ensures)
 
-mul-all-below : tie.Need-mul-all-below
-mul-all-below c = search needs
+cast-all-below : tie.Need-cast-all-below
+cast-all-below c = omega (arith, c .before .before .before .if2 .left)
 
 all-below-requires : tie.Need-all-below-requires
-all-below-requires c κs = cells-span _ _ _ (c .before .before .end-of .ensures) (c .before .count2 .ensures .0) (laid _ (sym (c .before .before .before .before .before .before .judge-sections .ensures) ∙ c .before .before .before .before .before .if1 .left)) _ refl
+all-below-requires c κs = cells-room _ _ _ (c .before .before .end-of .ensures) (c .before .count2 .ensures .0) (laid _ (sym (c .before .before .before .before .before .before .judge-sections .ensures) ∙ c .before .before .before .before .before .if1 .left))
 
 returns-4 : tie.Need-returns-4
 returns-4 c = file-3 _ (sym (c .before .before .before .before .before .before .before .before .judge-sections .ensures) ∙ c .before .before .before .before .before .before .before .if1 .left) _ (c .before .before .before .before .before .before .count .ensures .0) (c .before .before .before .before .before .if2 .left) _ (count-second _ _ _ (c .before .before .before .before .end-of .ensures) (c .before .before .before .count2 .ensures .0)) (c .before .before .if3 .left) (failed (c .before .all-below .ensures ∙ ap (allBelow _) (cells-read _ _ _ (c .before .before .before .before .end-of .ensures) (c .before .before .before .count2 .ensures .0))) (c .if4 .taken))
@@ -64,7 +64,7 @@ judge-file-spec =
     count-requires-2
     returns-3
     add-all-below
-    mul-all-below
+    cast-all-below
     all-below-requires
     returns-4
     returns-5)

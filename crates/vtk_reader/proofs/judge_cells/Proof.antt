@@ -1,19 +1,21 @@
+use mathlib.Core.Logic.{⊎-elim}
 use native.Mathlib.Omega.{arith}
 use Prim.Native.Nat.{_-_}
-use Rattle.vtk_reader.proofs.Reading.{Looking, looking-start, looking-on, looking-off, looking-all, looking-some}
+use Rattle.lists.proofs.Tests.{failed, passed}
+use Rattle.vtk_reader.proofs.Reading.{Looking, looking-start, looking-on, looking-past, looking-off, looking-all, looking-some}
 use borrow.Author.Needs.{needs}
-use Rattle.words.proofs.word.Reads as word-reads
-use Rattle.vtk_reader.proofs.still_below.Reads as still-below-reads
 use Rattle.vtk_reader.proofs.judge_cells.Statement.{statement}
 use Rattle.vtk_reader.proofs.judge_cells.Tie as tie
 use Rattle.vtk_reader.proofs.judge_cells.Reads as reads
 use Rattle.vtk_reader.proofs.judge_cells.Lts as lts
+use Rattle.words.proofs.four_below.Reads as four-below-reads
+use Rattle.words.proofs.word.Reads as word-reads
 
 abbrev Inv-loop : tie.InvT-loop
-Inv-loop file at n p named₀ i₀ named i = Looking file at n p named i
+Inv-loop file at n bound named₀ i₀ named i = Looking file at n bound named i
 
 abbrev μ-loop : tie.MeasureT-loop
-μ-loop file at n p named₀ i₀ named i = n - i
+μ-loop file at n bound named₀ i₀ named i = n - i
 
 loop-holds : tie.Need-loop-holds Inv-loop μ-loop
 loop-holds c = looking-start _ _ _ _
@@ -30,14 +32,17 @@ word-requires c κs = omega (arith, c .loop-test .taken, c .before .before .befo
 returns : tie.Need-returns Inv-loop μ-loop
 returns c = looking-off _ _ _ _ _ _ (c .before .before .before .loop .inv) _ (c .before .before .loop-test .taken) (c .before .word .ensures) (c .if1 .taken)
 
-mul-still-below : tie.Need-mul-still-below Inv-loop μ-loop
-mul-still-below c = search needs
+mul-four-below : tie.Need-mul-four-below Inv-loop μ-loop
+mul-four-below c = search needs
 
-add-still-below : tie.Need-add-still-below Inv-loop μ-loop
-add-still-below c = omega (arith, c .before .before .loop-test .taken, c .before .before .before .before .before .pre)
+add-four-below : tie.Need-add-four-below Inv-loop μ-loop
+add-four-below c = omega (arith, c .before .before .loop-test .taken, c .before .before .before .before .before .pre)
 
-still-below-requires : tie.Need-still-below-requires Inv-loop μ-loop
-still-below-requires c κs = omega (arith, c .before .before .loop-test .taken, c .before .before .before .before .before .pre)
+add-four-below-2 : tie.Need-add-four-below-2 Inv-loop μ-loop
+add-four-below-2 c = omega (arith, c .before .before .loop-test .taken, c .before .before .before .before .before .pre)
+
+four-below-requires : tie.Need-four-below-requires Inv-loop μ-loop
+four-below-requires c κs = omega (arith, c .before .before .loop-test .taken, c .before .before .before .before .before .pre)
 
 add-i : tie.Need-add-i Inv-loop μ-loop
 add-i c = search needs
@@ -46,13 +51,19 @@ loop-less : tie.Need-loop-less Inv-loop μ-loop
 loop-less c = search needs
 
 loop-again : tie.Need-loop-again Inv-loop μ-loop
-loop-again c = looking-on _ _ _ _ _ _ (c .before .before .before .before .loop .inv) _ _ (c .before .before .before .loop-test .taken) (c .before .before .word .ensures) (c .before .if1 .left) (c .still-below .ensures)
+loop-again c =
+    let w = c .before .before .before .before .before .loop .inv in
+    let h = c .before .before .before .before .loop-test .taken in
+    let e = c .before .before .before .word .ensures in
+    let f = c .before .before .if1 .left in
+    let r = c .before .four-below .ensures in
+    ⊎-elim (λ k. looking-past _ _ _ _ _ _ w h e f (failed r (k .0 .taken)) (k .1)) (λ k. looking-on _ _ _ _ _ _ w h e f (passed r (k .0 .left)) (k .1)) (c .if2 .came)
 
 returns-2 : tie.Need-returns-2 Inv-loop μ-loop
-returns-2 c = looking-all _ _ _ _ _ _ (c .before .before .loop .inv) (c .before .loop-test .left) (c .if2 .taken)
+returns-2 c = looking-all _ _ _ _ _ _ (c .before .before .loop .inv) (c .before .loop-test .left) (c .if3 .taken)
 
 returns-3 : tie.Need-returns-3 Inv-loop μ-loop
-returns-3 c = looking-some _ _ _ _ _ _ (c .before .before .loop .inv) (c .before .loop-test .left) (c .if2 .left)
+returns-3 c = looking-some _ _ _ _ _ _ (c .before .before .loop .inv) (c .before .loop-test .left) (c .if3 .left)
 
 pub judge-cells-spec : {M : Type 1} → statement M
 judge-cells-spec =
@@ -65,9 +76,10 @@ judge-cells-spec =
     add-word
     word-requires
     returns
-    mul-still-below
-    add-still-below
-    still-below-requires
+    mul-four-below
+    add-four-below
+    add-four-below-2
+    four-below-requires
     add-i
     loop-less
     loop-again
