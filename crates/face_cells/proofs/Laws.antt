@@ -2,7 +2,7 @@
 use mathlib.Core.Path.{_≡_, refl, sym, ap, _∙_, subst}
 use mathlib.Core.Bool.{Bool, true, false}
 use mathlib.Core.List.{List, [], _∷_, _++_}
-use Prim.Native.Nat.{ℕ, zero, suc, _+_, _*_, _≤_}
+use Prim.Native.Nat.{ℕ, zero, suc, _+_, _*_, _^_, _≤_, _<_}
 use native.Mathlib.Omega.{arith}
 use lib.ListN.{length, length-append}
 use lib.Seq.{sets, length-sets}
@@ -10,7 +10,10 @@ use Rattle.lists.specs.Runs.{Stored, Splits, Room}
 use Rattle.lists.proofs.Running.{stored-both, room-as, room-first}
 use Rattle.sides.specs.declared.Beside.{Beside}
 use Rattle.sides.specs.declared.Beside.the-variants.{Split, Equal, Given, Coarser, Border}
-use Rattle.face_cells.specs.Numbers.{overNumbers, fanNumbers, halvesNumbers, turnedNumbers, faceNumbers, axisNumbers, axisKeyed, turnsOf}
+use Rattle.sides.specs.declared.Sides.{Sides}
+use Rattle.face_cells.specs.declared.Quad.{Quad}
+use Rattle.face_cells.specs.declared.Octant.{Octant}
+use Rattle.face_cells.specs.Numbers.{overNumbers, fanNumbers, halvesNumbers, turnedNumbers, faceNumbers, lowFace, highFace, axisNumbers, octantAt, fromNext, axisKeyed, leafNumbers, turnsOf}
 
 -- ---- room
 
@@ -91,39 +94,75 @@ turned-room (suc n) c p q r s h = turned-room n c q r s p h
 
 -- ---- a face, by what stands beside it
 
-module _ (number : ℕ → ℕ) (side : Beside) (c p0 p1 p2 p3 k u v w : ℕ) where
-  pub face-split : (m : ℕ) → side ≡ Split → m ≡ number (k + v + w)
-      → faceNumbers number side c p0 p1 p2 p3 k u v w ≡ fanNumbers number m c p0 p1 p2 p3 k v w true true true true
+module _ (number : ℕ → ℕ) (side : Beside) (c : ℕ) (f : Quad) where
+  pub face-split : (m : ℕ) → side ≡ Split → m ≡ number (f .k + f .v + f .w)
+      → faceNumbers number side c f ≡ fanNumbers number m c f true true true true
   unfolding faceNumbers
-  face-split m e f = rw (e, f) refl
+  face-split m e g = rw (e, g) refl
 
-  pub face-equal : (o : ℕ) {e0 e1 e2 e3 : Bool} → side ≡ Equal e0 e1 e2 e3 → o ≡ number (k + u + v + w)
-      → faceNumbers number side c p0 p1 p2 p3 k u v w ≡ fanNumbers number c o p0 p1 p2 p3 k v w e0 e1 e2 e3
+  pub face-equal : (o : ℕ) {e0 e1 e2 e3 : Bool} → side ≡ Equal e0 e1 e2 e3 → o ≡ number (f .k + f .u + f .v + f .w)
+      → faceNumbers number side c f ≡ fanNumbers number c o f e0 e1 e2 e3
   unfolding faceNumbers
-  face-equal o e f = rw (e, f) refl
+  face-equal o e g = rw (e, g) refl
 
-  pub face-given : side ≡ Given → faceNumbers number side c p0 p1 p2 p3 k u v w ≡ []
+  pub face-given : side ≡ Given → faceNumbers number side c f ≡ []
   unfolding faceNumbers
   face-given e = rw e refl
 
-  pub face-coarser : {n : ℕ} → side ≡ Coarser n → faceNumbers number side c p0 p1 p2 p3 k u v w ≡ turnedNumbers n c p0 p1 p2 p3
+  pub face-coarser : {n : ℕ} → side ≡ Coarser n → faceNumbers number side c f ≡ turnedNumbers n c (f .p0) (f .p1) (f .p2) (f .p3)
   unfolding faceNumbers
   face-coarser e = rw e refl
 
-  pub face-border : side ≡ Border → faceNumbers number side c p0 p1 p2 p3 k u v w ≡ halvesNumbers c p0 p1 p2 p3
+  pub face-border : side ≡ Border → faceNumbers number side c f ≡ halvesNumbers c (f .p0) (f .p1) (f .p2) (f .p3)
   unfolding faceNumbers
   face-border e = rw e refl
 
 pub turns-few : (side : Beside) {n : ℕ} → side ≡ Coarser n → turnsOf side ≤ 3 → n ≤ 3
 turns-few side e h = rw e at h
 
--- ---- an axis, from the numbers of its keys
+-- ---- the faces of an octant
 
-pub keyed : (number : ℕ → ℕ) (low high : Beside) (k u v w c p0 p1 p2 p3 q0 q1 q2 q3 : ℕ) {kc k0 k1 k2 k3 l0 l1 l2 l3 : ℕ}
-    → c ≡ number kc → p0 ≡ number k0 → p1 ≡ number k1 → p2 ≡ number k2 → p3 ≡ number k3 → q0 ≡ number l0 → q1 ≡ number l1 → q2 ≡ number l2 → q3 ≡ number l3
-    → kc ≡ k + u + v + w → k0 ≡ k → k1 ≡ k + 2 * v → k2 ≡ k + 2 * v + 2 * w → k3 ≡ k + 2 * w
-    → l0 ≡ k + 2 * u → l1 ≡ k + 2 * u + 2 * v → l2 ≡ k + 2 * u + 2 * v + 2 * w → l3 ≡ k + 2 * u + 2 * w
-    → axisKeyed number low high k u v w ≡ axisNumbers number low high c p0 p1 p2 p3 q0 q1 q2 q3 k u v w
-unfolding axisKeyed
-keyed number low high k u v w c p0 p1 p2 p3 q0 q1 q2 q3 ec e0 e1 e2 e3 f0 f1 f2 f3 gc g0 g1 g2 g3 h0 h1 h2 h3 =
-    rw (ec, e0, e1, e2, e3, f0, f1, f2, f3, gc, g0, g1, g2, g3, h0, h1, h2, h3) refl
+module _ (o : Octant) where
+  pub low-small : {f : Quad} → f ≡ lowFace o → o .k + 3 * o .u + 2 * o .v + 2 * o .w < 2 ^ 64 → f .k + f .u + 2 * f .v + 2 * f .w < 2 ^ 64
+  low-small e h = rw e (omega (arith, h))
+
+  pub high-small : {g : Quad} → g ≡ highFace o → o .k + 3 * o .u + 2 * o .v + 2 * o .w < 2 ^ 64 → g .k + g .u + 2 * g .v + 2 * g .w < 2 ^ 64
+  high-small e h = rw e (omega (arith, h))
+
+  pub axis-faces : (number : ℕ → ℕ) (low high : Beside) {f g : Quad} → f ≡ lowFace o → g ≡ highFace o
+      → axisNumbers number low high o ≡ faceNumbers number low (o .centre) f ++ faceNumbers number high (o .centre) g
+  unfolding axisNumbers
+  axis-faces number low high e e′ = rw (e, e′) refl
+
+-- ---- an octant from each of its axes on
+
+module _ (number : ℕ → ℕ) (k u v w : ℕ) {o : Octant} (at : o ≡ octantAt number k u v w) where
+  octant-small : k + 3 * u + 3 * v + 3 * w < 2 ^ 64 → o .k + 3 * o .u + 2 * o .v + 2 * o .w < 2 ^ 64
+  unfolding octantAt
+  octant-small h = rw at (omega (arith, h))
+
+  next-at : {n : Octant} → n ≡ fromNext o → n ≡ octantAt number k v w u
+  unfolding octantAt
+  next-at e =
+      let middle : k + u + v + w ≡ k + v + w + u = omega arith in
+      let seventh : k + 2 * u + 2 * v + 2 * w ≡ k + 2 * v + 2 * w + 2 * u = omega arith in
+      let fifth : k + 2 * u + 2 * v ≡ k + 2 * v + 2 * u = omega arith in
+      let sixth : k + 2 * u + 2 * w ≡ k + 2 * w + 2 * u = omega arith in
+      rw (e, at, middle, seventh, fifth, sixth) refl
+
+module _ (number : ℕ → ℕ) (k u v w : ℕ) {x y z : Octant} (from-x : x ≡ octantAt number k u v w) (from-y : y ≡ fromNext x) (from-z : z ≡ fromNext y) where
+  y-at : y ≡ octantAt number k v w u
+  y-at = next-at number k u v w from-x from-y
+
+  z-at : z ≡ octantAt number k w u v
+  z-at = next-at number k v w u y-at from-z
+
+  pub all-small : k + 3 * u + 3 * v + 3 * w < 2 ^ 64
+      → (x .k + 3 * x .u + 2 * x .v + 2 * x .w < 2 ^ 64) × (y .k + 3 * y .u + 2 * y .v + 2 * y .w < 2 ^ 64) × (z .k + 3 * z .u + 2 * z .v + 2 * z .w < 2 ^ 64)
+  all-small h = (octant-small number k u v w from-x h, octant-small number k v w u y-at (omega (arith, h)), octant-small number k w u v z-at (omega (arith, h)))
+
+  pub leaf-axes : (f : Sides)
+      → leafNumbers number f k u v w
+      ≡ axisNumbers number (f .x0) (f .x1) x ++ (axisNumbers number (f .y0) (f .y1) y ++ axisNumbers number (f .z0) (f .z1) z)
+  unfolding leafNumbers axisKeyed
+  leaf-axes f = rw (from-x, y-at, z-at) refl

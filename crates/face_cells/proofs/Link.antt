@@ -15,7 +15,8 @@ use Rattle.sides.specs.declared.Beside.the-variants.{Split, Equal, Given, Coars
 use Rattle.sides.specs.declared.Sides.{Sides}
 use Rattle.sides.specs.Told.{told, besideAt, sidesAt}
 use Rattle.sides.proofs.Ties.{AllFine, split-fine}
-use Rattle.face_cells.specs.Numbers.{overNumbers, fanNumbers, halvesNumbers, turnedNumbers, faceNumbers, axisNumbers, axisKeyed, leafNumbers, turnsOf, Turns, AllTurn}
+use Rattle.face_cells.specs.declared.Quad.{Quad}
+use Rattle.face_cells.specs.Numbers.{overNumbers, fanNumbers, halvesNumbers, turnedNumbers, faceNumbers, axisNumbers, octantAt, axisKeyed, leafNumbers, turnsOf, Turns, AllTurn}
 
 -- ---- the vertices of cells under a naming
 
@@ -42,20 +43,20 @@ module _ (f : Pos → ℕ) where
       rw (e0, e1, e2, e3) (append-assoc (a′ ++ b′) c′ d′ ∙ append-assoc a′ b′ (c′ ++ d′))
 
   -- four edges, with the numbers of the corners and the keys of the midpoints
-  flat-fan : (fine : Pos → Bool) (number : ℕ → ℕ) (p q : Pos) (g : Face) (t0 t1 t2 t3 : Bool) (k v w p′ q′ a b c d : ℕ)
+  flat-fan : (fine : Pos → Bool) (number : ℕ → ℕ) (p q : Pos) (g : Face) (t0 t1 t2 t3 : Bool) (p′ q′ : ℕ) (h : Quad)
       → fine (middle (g .p0) (g .p1)) ≡ t0 → fine (middle (g .p1) (g .p2)) ≡ t1 → fine (middle (g .p2) (g .p3)) ≡ t2 → fine (middle (g .p3) (g .p0)) ≡ t3
-      → f p ≡ p′ → f q ≡ q′ → f (g .p0) ≡ a → f (g .p1) ≡ b → f (g .p2) ≡ c → f (g .p3) ≡ d
-      → f (middle (g .p0) (g .p1)) ≡ number (k + v) → f (middle (g .p1) (g .p2)) ≡ number (k + 2 * v + w)
-      → f (middle (g .p2) (g .p3)) ≡ number (k + 2 * w + v) → f (middle (g .p3) (g .p0)) ≡ number (k + w)
-      → flat f (fan fine p q g) ≡ fanNumbers number p′ q′ a b c d k v w t0 t1 t2 t3
+      → f p ≡ p′ → f q ≡ q′ → f (g .p0) ≡ h .p0 → f (g .p1) ≡ h .p1 → f (g .p2) ≡ h .p2 → f (g .p3) ≡ h .p3
+      → f (middle (g .p0) (g .p1)) ≡ number (h .k + h .v) → f (middle (g .p1) (g .p2)) ≡ number (h .k + 2 * h .v + h .w)
+      → f (middle (g .p2) (g .p3)) ≡ number (h .k + 2 * h .w + h .v) → f (middle (g .p3) (g .p0)) ≡ number (h .k + h .w)
+      → flat f (fan fine p q g) ≡ fanNumbers number p′ q′ h t0 t1 t2 t3
   unfolding fan fanNumbers
-  flat-fan fine number p q g t0 t1 t2 t3 k v w p′ q′ a b c d s0 s1 s2 s3 ep eq e0 e1 e2 e3 m0 m1 m2 m3 =
+  flat-fan fine number p q g t0 t1 t2 t3 p′ q′ h s0 s1 s2 s3 ep eq e0 e1 e2 e3 m0 m1 m2 m3 =
       simp (flat-append f)
       (four-lists
-      (flat-over fine p q (g .p0) (g .p1) t0 p′ q′ a (number (k + v)) b s0 ep eq e0 m0 e1)
-      (flat-over fine p q (g .p1) (g .p2) t1 p′ q′ b (number (k + 2 * v + w)) c s1 ep eq e1 m1 e2)
-      (flat-over fine p q (g .p2) (g .p3) t2 p′ q′ c (number (k + 2 * w + v)) d s2 ep eq e2 m2 e3)
-      (flat-over fine p q (g .p3) (g .p0) t3 p′ q′ d (number (k + w)) a s3 ep eq e3 m3 e0))
+      (flat-over fine p q (g .p0) (g .p1) t0 p′ q′ (h .p0) (number (h .k + h .v)) (h .p1) s0 ep eq e0 m0 e1)
+      (flat-over fine p q (g .p1) (g .p2) t1 p′ q′ (h .p1) (number (h .k + 2 * h .v + h .w)) (h .p2) s1 ep eq e1 m1 e2)
+      (flat-over fine p q (g .p2) (g .p3) t2 p′ q′ (h .p2) (number (h .k + 2 * h .w + h .v)) (h .p3) s2 ep eq e2 m2 e3)
+      (flat-over fine p q (g .p3) (g .p0) t3 p′ q′ (h .p3) (number (h .k + h .w)) (h .p0) s3 ep eq e3 m3 e0))
 
   flat-halves : (c : Pos) (g : Face) (c′ p q r s : ℕ) → f c ≡ c′ → f (g .p0) ≡ p → f (g .p1) ≡ q → f (g .p2) ≡ r → f (g .p3) ≡ s
       → flat f (halves c g) ≡ halvesNumbers c′ p q r s
@@ -153,21 +154,24 @@ module _ (m : ℕ) (x : Pos) (a : Axis) where
     abbrev f : Pos → ℕ
     f p = number (keyOf p)
 
+    -- the face in numbers, its low corner at the key k
+    abbrev quadAt : ℕ → Quad
+    quadAt k = record { p0 = number k; p1 = number (k + 2 * v); p2 = number (k + 2 * v + 2 * w); p3 = number (k + 2 * w); k = k; u = u; v = v; w = w }
+
     face-link : (s : Bool) (b : Side) → (b ≡ split → AllFine fine (face m x a s))
         → flat f (cellsTo fine m x a s b)
-        ≡ faceNumbers number (told fine m x a s b) (number (lowKey m x a + u + v + w)) (number (fromKey m x a s)) (number (fromKey m x a s + 2 * v))
-        (number (fromKey m x a s + 2 * v + 2 * w)) (number (fromKey m x a s + 2 * w)) (fromKey m x a s) u v w
+        ≡ faceNumbers number (told fine m x a s b) (number (lowKey m x a + u + v + w)) (quadAt (fromKey m x a s))
     unfolding cellsTo faceNumbers flat
     face-link s split h =
         let g = face-points s in
         let t = h refl in
-        flat-fan f fine number (faceCentre (face m x a s)) (centre m x) (face m x a s) true true true true (fromKey m x a s) v w _ _ _ _ _ _
+        flat-fan f fine number (faceCentre (face m x a s)) (centre m x) (face m x a s) true true true true _ _ (quadAt (fromKey m x a s))
         (t .e0) (t .e1) (t .e2) (t .e3) (ap number (g .mid)) (ap number key-centre) (ap number (g .k0)) (ap number (g .k1)) (ap number (g .k2)) (ap number (g .k3))
         (ap number (g .n0)) (ap number (g .n1)) (ap number (g .n2)) (ap number (g .n3))
     face-link false equal h = refl
     face-link true equal h =
         let g = face-points true in
-        flat-fan f fine number (centre m x) (centre m (beside a true x)) (face m x a true) _ _ _ _ (fromKey m x a true) v w _ _ _ _ _ _
+        flat-fan f fine number (centre m x) (centre m (beside a true x)) (face m x a true) _ _ _ _ _ _ (quadAt (fromKey m x a true))
         refl refl refl refl (ap number key-centre) (ap number key-opposite) (ap number (g .k0)) (ap number (g .k1)) (ap number (g .k2)) (ap number (g .k3))
         (ap number (g .n0)) (ap number (g .n1)) (ap number (g .n2)) (ap number (g .n3))
     face-link s (coarser n z) h =
@@ -208,7 +212,7 @@ module _ (d : Pos) (l : ℕ) (s : List ℕ) (c : Closed l d (read d l s)) (m : �
   module _ (number : ℕ → ℕ) where
     axis-link : (a : Axis) → flat (λ p. number (keyOf p)) (axisCells l d (read d l s) m x a)
         ≡ axisKeyed number (besideAt l d (read d l s) m x a false) (besideAt l d (read d l s) m x a true) (lowKey m x a) (half m a) (half m (next a)) (half m (next (next a)))
-    unfolding axisKeyed axisNumbers
+    unfolding axisKeyed axisNumbers octantAt
     axis-link a =
         flat-append (λ p. number (keyOf p)) (faceCells l d (read d l s) m x a false) (faceCells l d (read d l s) m x a true)
         ∙ ap₂ (λ (p q : List ℕ). p ++ q)

@@ -8,6 +8,8 @@ use Rattle.numbering.specs.Distinct.{rank}
 use Rattle.sides.specs.declared.Beside.{Beside}
 use Rattle.sides.specs.declared.Beside.the-variants.{Split, Equal, Given, Coarser, Border}
 use Rattle.sides.specs.declared.Sides.{Sides}
+use Rattle.face_cells.specs.declared.Quad.{Quad}
+use Rattle.face_cells.specs.declared.Octant.{Octant}
 
 -- the number of a key among the first v entries of the work
 abbrev pub numberIn : List ℕ → ℕ → ℕ → ℕ
@@ -16,13 +18,13 @@ numberIn w v key = rank key (take v w)
 unfoldable pub overNumbers : Bool → (p q a m b : ℕ) → List ℕ
 overNumbers fine p q a m b = cond fine (p ∷ q ∷ a ∷ m ∷ p ∷ q ∷ m ∷ b ∷ []) (p ∷ q ∷ a ∷ b ∷ [])
 
--- four edges; k is the key of the first corner
-unfoldable pub fanNumbers : (ℕ → ℕ) → (p q a b c d k v w : ℕ) → (e0 e1 e2 e3 : Bool) → List ℕ
-fanNumbers number p q a b c d k v w e0 e1 e2 e3 =
-    overNumbers e0 p q a (number (k + v)) b
-    ++ (overNumbers e1 p q b (number (k + 2 * v + w)) c
-    ++ (overNumbers e2 p q c (number (k + 2 * w + v)) d
-    ++ overNumbers e3 p q d (number (k + w)) a))
+-- four edges
+unfoldable pub fanNumbers : (ℕ → ℕ) → (p q : ℕ) → Quad → (e0 e1 e2 e3 : Bool) → List ℕ
+fanNumbers number p q f e0 e1 e2 e3 =
+    overNumbers e0 p q (f .p0) (number (f .k + f .v)) (f .p1)
+    ++ (overNumbers e1 p q (f .p1) (number (f .k + 2 * f .v + f .w)) (f .p2)
+    ++ (overNumbers e2 p q (f .p2) (number (f .k + 2 * f .w + f .v)) (f .p3)
+    ++ overNumbers e3 p q (f .p3) (number (f .k + f .w)) (f .p0)))
 
 unfoldable pub halvesNumbers : (c p q r s : ℕ) → List ℕ
 halvesNumbers c p q r s = c ∷ p ∷ q ∷ r ∷ c ∷ p ∷ r ∷ s ∷ []
@@ -32,12 +34,12 @@ turnedNumbers zero c p q r s = halvesNumbers c p q r s
 turnedNumbers (suc n) c p q r s = turnedNumbers n c q r s p
 
 -- the face's centre is at k + v + w, the centre of the octant across it at k + u + v + w
-unfoldable pub faceNumbers : (ℕ → ℕ) → Beside → (c p0 p1 p2 p3 k u v w : ℕ) → List ℕ
-faceNumbers number Split c p0 p1 p2 p3 k u v w = fanNumbers number (number (k + v + w)) c p0 p1 p2 p3 k v w true true true true
-faceNumbers number (Equal e0 e1 e2 e3) c p0 p1 p2 p3 k u v w = fanNumbers number c (number (k + u + v + w)) p0 p1 p2 p3 k v w e0 e1 e2 e3
-faceNumbers number Given c p0 p1 p2 p3 k u v w = []
-faceNumbers number (Coarser n) c p0 p1 p2 p3 k u v w = turnedNumbers n c p0 p1 p2 p3
-faceNumbers number Border c p0 p1 p2 p3 k u v w = halvesNumbers c p0 p1 p2 p3
+unfoldable pub faceNumbers : (ℕ → ℕ) → Beside → ℕ → Quad → List ℕ
+faceNumbers number Split c f = fanNumbers number (number (f .k + f .v + f .w)) c f true true true true
+faceNumbers number (Equal e0 e1 e2 e3) c f = fanNumbers number c (number (f .k + f .u + f .v + f .w)) f e0 e1 e2 e3
+faceNumbers number Given c f = []
+faceNumbers number (Coarser n) c f = turnedNumbers n c (f .p0) (f .p1) (f .p2) (f .p3)
+faceNumbers number Border c f = halvesNumbers c (f .p0) (f .p1) (f .p2) (f .p3)
 
 -- a rotation is by a corner of the face
 abbrev pub turnsOf : Beside → ℕ
@@ -50,17 +52,56 @@ turnsOf Border = 0
 abbrev pub Turns : Beside → Type 0
 Turns side = turnsOf side ≤ 3
 
--- the faces of an axis, the negative one first
-unfoldable pub axisNumbers : (ℕ → ℕ) → (low high : Beside) → (c p0 p1 p2 p3 q0 q1 q2 q3 k u v w : ℕ) → List ℕ
-axisNumbers number low high c p0 p1 p2 p3 q0 q1 q2 q3 k u v w =
-    faceNumbers number low c p0 p1 p2 p3 k u v w ++ faceNumbers number high c q0 q1 q2 q3 (k + 2 * u) u v w
+-- the faces of an octant across its first axis
+abbrev pub lowFace : Octant → Quad
+lowFace o = record { p0 = o .c0; p1 = o .c2; p2 = o .c6; p3 = o .c4; k = o .k; u = o .u; v = o .v; w = o .w }
 
--- the same where every number is that of its key
+abbrev pub highFace : Octant → Quad
+highFace o = record { p0 = o .c1; p1 = o .c3; p2 = o .c7; p3 = o .c5; k = o .k + 2 * o .u; u = o .u; v = o .v; w = o .w }
+
+unfoldable pub axisNumbers : (ℕ → ℕ) → (low high : Beside) → Octant → List ℕ
+axisNumbers number low high o = faceNumbers number low (o .centre) (lowFace o) ++ faceNumbers number high (o .centre) (highFace o)
+
+-- the octant whose low corner has the key k, where every number is that of its key
+unfoldable pub octantAt : (ℕ → ℕ) → (k u v w : ℕ) → Octant
+octantAt number k u v w =
+    record {
+      centre = number (k + u + v + w);
+      c0 = number k;
+      c1 = number (k + 2 * u);
+      c2 = number (k + 2 * v);
+      c3 = number (k + 2 * u + 2 * v);
+      c4 = number (k + 2 * w);
+      c5 = number (k + 2 * u + 2 * w);
+      c6 = number (k + 2 * v + 2 * w);
+      c7 = number (k + 2 * u + 2 * v + 2 * w);
+      k = k;
+      u = u;
+      v = v;
+      w = w;
+    }
+
+-- the same octant, from the next axis on
+abbrev pub fromNext : Octant → Octant
+fromNext o =
+    record {
+      centre = o .centre;
+      c0 = o .c0;
+      c1 = o .c2;
+      c2 = o .c4;
+      c3 = o .c6;
+      c4 = o .c1;
+      c5 = o .c3;
+      c6 = o .c5;
+      c7 = o .c7;
+      k = o .k;
+      u = o .v;
+      v = o .w;
+      w = o .u;
+    }
+
 unfoldable pub axisKeyed : (ℕ → ℕ) → (low high : Beside) → (k u v w : ℕ) → List ℕ
-axisKeyed number low high k u v w =
-    axisNumbers number low high (number (k + u + v + w))
-    (number k) (number (k + 2 * v)) (number (k + 2 * v + 2 * w)) (number (k + 2 * w))
-    (number (k + 2 * u)) (number (k + 2 * u + 2 * v)) (number (k + 2 * u + 2 * v + 2 * w)) (number (k + 2 * u + 2 * w)) k u v w
+axisKeyed number low high k u v w = axisNumbers number low high (octantAt number k u v w)
 
 -- the six faces of a leaf
 unfoldable pub leafNumbers : (ℕ → ℕ) → Sides → (k u v w : ℕ) → List ℕ

@@ -1,168 +1,46 @@
 use mathlib.Core.Path.{refl}
-use native.Mathlib.Omega.{arith}
-use Rattle.lists.proofs.Running.{stored-both, stored-as}
-use Rattle.face_cells.specs.Numbers.{leafNumbers}
-use Rattle.face_cells.proofs.Laws.{room-to, room-front, room-rest, keyed}
+use Rattle.lists.proofs.Running.{stored-both}
+use Rattle.face_cells.proofs.Laws.{room-to, room-front, room-rest, all-small, leaf-axes}
 use borrow.Author.Needs.{needs}
 use Rattle.face_cells.proofs.six_faces.Statement.{statement}
 use Rattle.face_cells.proofs.six_faces.Tie as tie
 use Rattle.face_cells.proofs.six_faces.Reads as reads
 use Rattle.face_cells.proofs.six_faces.Lts as lts
 use Rattle.face_cells.proofs.axis_cells.Reads as axis-cells-reads
-use Rattle.numbering.proofs.find.Reads as find-reads
-use Rattle.numbering.proofs.near.Reads as near-reads
+use Rattle.face_cells.proofs.from_next.Reads as from-next-reads
+use Rattle.face_cells.proofs.octant_at.Reads as octant-at-reads
 
-mul-x : tie.Need-mul-x
-mul-x c = search needs
+octant-at-requires : tie.Need-octant-at-requires
+octant-at-requires c κs = search needs
 
-add-x : tie.Need-add-x
-add-x c = search needs
+from-next-requires : tie.Need-from-next-requires
+from-next-requires c κs = search needs
 
-mul-y : tie.Need-mul-y
-mul-y c = search needs
-
-mul-z : tie.Need-mul-z
-mul-z c = search needs
-
-add-find : tie.Need-add-find
-add-find c = search needs
-
-add-find-2 : tie.Need-add-find-2
-add-find-2 c = search needs
-
-add-find-3 : tie.Need-add-find-3
-add-find-3 c = search needs
-
-find-requires : tie.Need-find-requires
-find-requires c κs = search needs
-
-find-requires-2 : tie.Need-find-requires-2
-find-requires-2 c κs = search needs
-
-find-requires-3 : tie.Need-find-requires-3
-find-requires-3 c κs = search needs
-
-add-find-4 : tie.Need-add-find-4
-add-find-4 c = search needs
-
-find-requires-4 : tie.Need-find-requires-4
-find-requires-4 c κs = search needs
-
-add-find-5 : tie.Need-add-find-5
-add-find-5 c = search needs
-
-find-requires-5 : tie.Need-find-requires-5
-find-requires-5 c κs = search needs
-
-cast-near : tie.Need-cast-near
-cast-near c = search needs
-
-add-near : tie.Need-add-near
-add-near c = search needs
-
-add-near-2 : tie.Need-add-near-2
-add-near-2 c = search needs
-
-near-requires : tie.Need-near-requires
-near-requires c κs = search needs
-
-cast-near-2 : tie.Need-cast-near-2
-cast-near-2 c = search needs
-
-add-near-3 : tie.Need-add-near-3
-add-near-3 c = search needs
-
-add-near-4 : tie.Need-add-near-4
-add-near-4 c = search needs
-
-near-requires-2 : tie.Need-near-requires-2
-near-requires-2 c κs = search needs
-
-cast-near-3 : tie.Need-cast-near-3
-cast-near-3 c = search needs
-
-add-near-5 : tie.Need-add-near-5
-add-near-5 c = search needs
-
-add-near-6 : tie.Need-add-near-6
-add-near-6 c = search needs
-
-add-near-7 : tie.Need-add-near-7
-add-near-7 c = search needs
-
-near-requires-3 : tie.Need-near-requires-3
-near-requires-3 c κs = search needs
-
-cast-near-4 : tie.Need-cast-near-4
-cast-near-4 c = search needs
-
-add-near-8 : tie.Need-add-near-8
-add-near-8 c = search needs
-
-add-near-9 : tie.Need-add-near-9
-add-near-9 c = search needs
-
-add-near-10 : tie.Need-add-near-10
-add-near-10 c = search needs
-
-near-requires-4 : tie.Need-near-requires-4
-near-requires-4 c κs = search needs
+from-next-requires-2 : tie.Need-from-next-requires-2
+from-next-requires-2 c κs = search needs
 
 axis-cells-requires : tie.Need-axis-cells-requires
-unfolding leafNumbers
-axis-cells-requires c κs = (c .before .before .before .before .before .before .before .before .before .before .before .before .pre .0, (omega (arith, c .before .before .before .before .before .before .before .before .before .before .before .before .pre .1 .0), (c .before .before .before .before .before .before .before .before .before .before .before .before .pre .1 .1 .0 .x, room-to (keyed _ _ _ _ _ _ _ _ _ _ _ _ _ _ _ _ (c .before .before .before .before .before .before .before .before .before .find .ensures) (c .before .before .before .before .before .before .before .before .find2 .ensures) (c .before .before .before .before .before .before .find4 .ensures) (c .before .before .near3 .ensures) (c .before .before .before .before .near .ensures) (c .before .before .before .before .before .before .before .find3 .ensures) (c .before .before .before .before .before .find5 .ensures) (c .before .near4 .ensures) (c .before .before .before .near2 .ensures) (omega arith) (omega arith) (omega arith) (omega arith) (omega arith) (omega arith) (omega arith) (omega arith) (omega arith)) (room-front _ _ (c .before .before .before .before .before .before .before .before .before .before .before .before .pre .1 .1 .1)))))
+axis-cells-requires c κs = (c .before .before .before .before .before .before .pre .0, (all-small _ _ _ _ _ (c .before .before .before .octant-at .ensures) (c .before .before .from-next .ensures) (c .before .from-next2 .ensures) (c .before .before .before .before .before .before .pre .1 .0) .0, (c .before .before .before .before .before .before .pre .1 .1 .0 .x, room-front _ _ (room-to (leaf-axes _ _ _ _ _ (c .before .before .before .octant-at .ensures) (c .before .before .from-next .ensures) (c .before .from-next2 .ensures) _) (c .before .before .before .before .before .before .pre .1 .1 .1)))))
 
 axis-cells-requires-2 : tie.Need-axis-cells-requires-2
-unfolding leafNumbers
-axis-cells-requires-2 c κs = (c .before .before .before .before .before .before .before .before .before .before .before .before .before .before .before .before .pre .0, (omega (arith, c .before .before .before .before .before .before .before .before .before .before .before .before .before .before .before .before .pre .1 .0), (c .before .before .before .before .before .before .before .before .before .before .before .before .before .before .before .before .pre .1 .1 .0 .y, room-to (keyed _ _ _ _ _ _ _ _ _ _ _ _ _ _ _ _ (c .before .before .before .before .before .before .before .before .before .before .before .before .before .find .ensures) (c .before .before .before .before .before .before .before .before .before .before .before .before .find2 .ensures) (c .before .before .before .before .before .before .before .before .near .ensures) (c .before .before .before .before .before .before .before .near2 .ensures) (c .before .before .before .before .before .before .before .before .before .before .before .find3 .ensures) (c .before .before .before .before .before .before .before .before .before .before .find4 .ensures) (c .before .before .before .before .before .before .near3 .ensures) (c .before .before .before .before .before .near4 .ensures) (c .before .before .before .before .before .before .before .before .before .find5 .ensures) (omega arith) (omega arith) (omega arith) (omega arith) (omega arith) (omega arith) (omega arith) (omega arith) (omega arith)) (room-front _ _ (room-rest _ _ (c .before .before .before .before .before .before .before .before .before .before .before .before .before .before .before .before .pre .1 .1 .1) (stored-as (keyed _ _ _ _ _ _ _ _ _ _ _ _ _ _ _ _ (c .before .before .before .before .before .before .before .before .before .before .before .before .before .find .ensures) (c .before .before .before .before .before .before .before .before .before .before .before .before .find2 .ensures) (c .before .before .before .before .before .before .before .before .before .before .find4 .ensures) (c .before .before .before .before .before .before .near3 .ensures) (c .before .before .before .before .before .before .before .before .near .ensures) (c .before .before .before .before .before .before .before .before .before .before .before .find3 .ensures) (c .before .before .before .before .before .before .before .before .before .find5 .ensures) (c .before .before .before .before .before .near4 .ensures) (c .before .before .before .before .before .before .before .near2 .ensures) (omega arith) (omega arith) (omega arith) (omega arith) (omega arith) (omega arith) (omega arith) (omega arith) (omega arith)) (c .before .before .before .axis-cells .ensures)))))))
+axis-cells-requires-2 c κs = (c .before .before .before .before .before .before .before .before .before .before .pre .0, (all-small _ _ _ _ _ (c .before .before .before .before .before .before .before .octant-at .ensures) (c .before .before .before .before .before .before .from-next .ensures) (c .before .before .before .before .before .from-next2 .ensures) (c .before .before .before .before .before .before .before .before .before .before .pre .1 .0) .1, (c .before .before .before .before .before .before .before .before .before .before .pre .1 .1 .0 .y, room-front _ _ (room-rest _ _ (room-to (leaf-axes _ _ _ _ _ (c .before .before .before .before .before .before .before .octant-at .ensures) (c .before .before .before .before .before .before .from-next .ensures) (c .before .before .before .before .before .from-next2 .ensures) _) (c .before .before .before .before .before .before .before .before .before .before .pre .1 .1 .1)) (c .before .before .before .axis-cells .ensures)))))
 
 axis-cells-requires-3 : tie.Need-axis-cells-requires-3
-unfolding leafNumbers
-axis-cells-requires-3 c κs = (c .before .before .before .before .before .before .before .before .before .before .before .before .before .before .before .before .before .before .before .before .pre .0, (omega (arith, c .before .before .before .before .before .before .before .before .before .before .before .before .before .before .before .before .before .before .before .before .pre .1 .0), (c .before .before .before .before .before .before .before .before .before .before .before .before .before .before .before .before .before .before .before .before .pre .1 .1 .0 .z, room-to (keyed _ _ _ _ _ _ _ _ _ _ _ _ _ _ _ _ (c .before .before .before .before .before .before .before .before .before .before .before .before .before .before .before .before .before .find .ensures) (c .before .before .before .before .before .before .before .before .before .before .before .before .before .before .before .before .find2 .ensures) (c .before .before .before .before .before .before .before .before .before .before .before .before .before .before .before .find3 .ensures) (c .before .before .before .before .before .before .before .before .before .before .before .before .before .find5 .ensures) (c .before .before .before .before .before .before .before .before .before .before .before .before .before .before .find4 .ensures) (c .before .before .before .before .before .before .before .before .before .before .before .before .near .ensures) (c .before .before .before .before .before .before .before .before .before .before .before .near2 .ensures) (c .before .before .before .before .before .before .before .before .before .near4 .ensures) (c .before .before .before .before .before .before .before .before .before .before .near3 .ensures) (omega arith) (omega arith) (omega arith) (omega arith) (omega arith) (omega arith) (omega arith) (omega arith) (omega arith)) (room-rest _ _ (room-rest _ _ (c .before .before .before .before .before .before .before .before .before .before .before .before .before .before .before .before .before .before .before .before .pre .1 .1 .1) (stored-as (keyed _ _ _ _ _ _ _ _ _ _ _ _ _ _ _ _ (c .before .before .before .before .before .before .before .before .before .before .before .before .before .before .before .before .before .find .ensures) (c .before .before .before .before .before .before .before .before .before .before .before .before .before .before .before .before .find2 .ensures) (c .before .before .before .before .before .before .before .before .before .before .before .before .before .before .find4 .ensures) (c .before .before .before .before .before .before .before .before .before .before .near3 .ensures) (c .before .before .before .before .before .before .before .before .before .before .before .before .near .ensures) (c .before .before .before .before .before .before .before .before .before .before .before .before .before .before .before .find3 .ensures) (c .before .before .before .before .before .before .before .before .before .before .before .before .before .find5 .ensures) (c .before .before .before .before .before .before .before .before .before .near4 .ensures) (c .before .before .before .before .before .before .before .before .before .before .before .near2 .ensures) (omega arith) (omega arith) (omega arith) (omega arith) (omega arith) (omega arith) (omega arith) (omega arith) (omega arith)) (c .before .before .before .before .before .before .before .axis-cells .ensures))) (stored-as (keyed _ _ _ _ _ _ _ _ _ _ _ _ _ _ _ _ (c .before .before .before .before .before .before .before .before .before .before .before .before .before .before .before .before .before .find .ensures) (c .before .before .before .before .before .before .before .before .before .before .before .before .before .before .before .before .find2 .ensures) (c .before .before .before .before .before .before .before .before .before .before .before .before .near .ensures) (c .before .before .before .before .before .before .before .before .before .before .before .near2 .ensures) (c .before .before .before .before .before .before .before .before .before .before .before .before .before .before .before .find3 .ensures) (c .before .before .before .before .before .before .before .before .before .before .before .before .before .before .find4 .ensures) (c .before .before .before .before .before .before .before .before .before .before .near3 .ensures) (c .before .before .before .before .before .before .before .before .before .near4 .ensures) (c .before .before .before .before .before .before .before .before .before .before .before .before .before .find5 .ensures) (omega arith) (omega arith) (omega arith) (omega arith) (omega arith) (omega arith) (omega arith) (omega arith) (omega arith)) (c .before .before .before .axis-cells2 .ensures))))))
+axis-cells-requires-3 c κs = (c .before .before .before .before .before .before .before .before .before .before .before .before .before .before .pre .0, (all-small _ _ _ _ _ (c .before .before .before .before .before .before .before .before .before .before .before .octant-at .ensures) (c .before .before .before .before .before .before .before .before .before .before .from-next .ensures) (c .before .before .before .before .before .before .before .before .before .from-next2 .ensures) (c .before .before .before .before .before .before .before .before .before .before .before .before .before .before .pre .1 .0) .2, (c .before .before .before .before .before .before .before .before .before .before .before .before .before .before .pre .1 .1 .0 .z, room-rest _ _ (room-rest _ _ (room-to (leaf-axes _ _ _ _ _ (c .before .before .before .before .before .before .before .before .before .before .before .octant-at .ensures) (c .before .before .before .before .before .before .before .before .before .before .from-next .ensures) (c .before .before .before .before .before .before .before .before .before .from-next2 .ensures) _) (c .before .before .before .before .before .before .before .before .before .before .before .before .before .before .pre .1 .1 .1)) (c .before .before .before .before .before .before .before .axis-cells .ensures)) (c .before .before .before .axis-cells2 .ensures))))
 
 same-length : tie.Need-same-length
 same-length c = search needs
 
 returns : tie.Need-returns
-unfolding leafNumbers
-returns c = stored-both refl (stored-as (keyed _ _ _ _ _ _ _ _ _ _ _ _ _ _ _ _ (c .before .before .before .before .before .before .before .before .before .before .before .before .before .before .before .before .before .before .before .before .find .ensures) (c .before .before .before .before .before .before .before .before .before .before .before .before .before .before .before .before .before .before .before .find2 .ensures) (c .before .before .before .before .before .before .before .before .before .before .before .before .before .before .before .before .before .find4 .ensures) (c .before .before .before .before .before .before .before .before .before .before .before .before .before .near3 .ensures) (c .before .before .before .before .before .before .before .before .before .before .before .before .before .before .before .near .ensures) (c .before .before .before .before .before .before .before .before .before .before .before .before .before .before .before .before .before .before .find3 .ensures) (c .before .before .before .before .before .before .before .before .before .before .before .before .before .before .before .before .find5 .ensures) (c .before .before .before .before .before .before .before .before .before .before .before .before .near4 .ensures) (c .before .before .before .before .before .before .before .before .before .before .before .before .before .before .near2 .ensures) (omega arith) (omega arith) (omega arith) (omega arith) (omega arith) (omega arith) (omega arith) (omega arith) (omega arith)) (c .before .before .before .before .before .before .before .before .before .before .axis-cells .ensures)) (stored-both refl (stored-as (keyed _ _ _ _ _ _ _ _ _ _ _ _ _ _ _ _ (c .before .before .before .before .before .before .before .before .before .before .before .before .before .before .before .before .before .before .before .before .find .ensures) (c .before .before .before .before .before .before .before .before .before .before .before .before .before .before .before .before .before .before .before .find2 .ensures) (c .before .before .before .before .before .before .before .before .before .before .before .before .before .before .before .near .ensures) (c .before .before .before .before .before .before .before .before .before .before .before .before .before .before .near2 .ensures) (c .before .before .before .before .before .before .before .before .before .before .before .before .before .before .before .before .before .before .find3 .ensures) (c .before .before .before .before .before .before .before .before .before .before .before .before .before .before .before .before .before .find4 .ensures) (c .before .before .before .before .before .before .before .before .before .before .before .before .before .near3 .ensures) (c .before .before .before .before .before .before .before .before .before .before .before .before .near4 .ensures) (c .before .before .before .before .before .before .before .before .before .before .before .before .before .before .before .before .find5 .ensures) (omega arith) (omega arith) (omega arith) (omega arith) (omega arith) (omega arith) (omega arith) (omega arith) (omega arith)) (c .before .before .before .before .before .before .axis-cells2 .ensures)) (stored-as (keyed _ _ _ _ _ _ _ _ _ _ _ _ _ _ _ _ (c .before .before .before .before .before .before .before .before .before .before .before .before .before .before .before .before .before .before .before .before .find .ensures) (c .before .before .before .before .before .before .before .before .before .before .before .before .before .before .before .before .before .before .before .find2 .ensures) (c .before .before .before .before .before .before .before .before .before .before .before .before .before .before .before .before .before .before .find3 .ensures) (c .before .before .before .before .before .before .before .before .before .before .before .before .before .before .before .before .find5 .ensures) (c .before .before .before .before .before .before .before .before .before .before .before .before .before .before .before .before .before .find4 .ensures) (c .before .before .before .before .before .before .before .before .before .before .before .before .before .before .before .near .ensures) (c .before .before .before .before .before .before .before .before .before .before .before .before .before .before .near2 .ensures) (c .before .before .before .before .before .before .before .before .before .before .before .before .near4 .ensures) (c .before .before .before .before .before .before .before .before .before .before .before .before .before .near3 .ensures) (omega arith) (omega arith) (omega arith) (omega arith) (omega arith) (omega arith) (omega arith) (omega arith) (omega arith)) (c .before .before .axis-cells3 .ensures)))
+returns c = stored-both (leaf-axes _ _ _ _ _ (c .before .before .before .before .before .before .before .before .before .before .before .before .before .before .octant-at .ensures) (c .before .before .before .before .before .before .before .before .before .before .before .before .before .from-next .ensures) (c .before .before .before .before .before .before .before .before .before .before .before .before .from-next2 .ensures) _) (c .before .before .before .before .before .before .before .before .before .before .axis-cells .ensures) (stored-both refl (c .before .before .before .before .before .before .axis-cells2 .ensures) (c .before .before .axis-cells3 .ensures))
 
 pub six-faces-spec : {M : Type 1} → statement M
 six-faces-spec =
     tie.close
     (tie.spec
-    mul-x
-    add-x
-    mul-y
-    mul-z
-    add-find
-    add-find-2
-    add-find-3
-    find-requires
-    find-requires-2
-    find-requires-3
-    add-find-4
-    find-requires-4
-    add-find-5
-    find-requires-5
-    cast-near
-    add-near
-    add-near-2
-    near-requires
-    cast-near-2
-    add-near-3
-    add-near-4
-    near-requires-2
-    cast-near-3
-    add-near-5
-    add-near-6
-    add-near-7
-    near-requires-3
-    cast-near-4
-    add-near-8
-    add-near-9
-    add-near-10
-    near-requires-4
+    octant-at-requires
+    from-next-requires
+    from-next-requires-2
     axis-cells-requires
     axis-cells-requires-2
     axis-cells-requires-3
