@@ -13,7 +13,7 @@ use lib.ListN.{length, getD, set, take, drop, replicate, length-set, length-drop
 use lib.Seq.{length-take-le, length-front, getD-set-same, getD-set-other, take-at, drop-at, take-set-le, drop-set-add, getD-drop, set-getD}
 use Rattle.lists.specs.Appearance.{place, Table}
 use Rattle.lists.specs.Runs.{run}
-use Rattle.lists.specs.Tables.{cellsOf}
+use Rattle.lists.specs.Tables.{cellsOf, most}
 use Rattle.lists.proofs.Cases.{eqOr, ltOr}
 use Rattle.lists.proofs.Appearing.{table-none}
 use Rattle.lists.proofs.Running.{run-last}
@@ -21,7 +21,7 @@ use Rattle.volume.specs.Cell.{CellIn}
 use Rattle.volume.specs.Volume.{verdictAt}
 use Rattle.groups.specs.Settled.{Sized}
 use Rattle.compact.specs.Used.{firstUses, usedOf, CornersAsked, CornersNoted}
-use Rattle.compact.specs.Weighed.{shaped, isDropped, shapeAt, lostAt, finalCells, droppedCells, markedIn, codeOf, codeAt, Marks, WeighAsked, WeighedAs, WeighedAt, Tallied}
+use Rattle.compact.specs.Weighed.{shaped, isDropped, shapeAt, lostAt, finalCells, droppedCells, markedIn, codeOf, codeAt, Marks, StayAsked, WeighAsked, WeighedAs, WeighedAt, Tallied}
 use Rattle.volume.specs.declared.Verdict.{Verdict}
 use Rattle.volume.specs.declared.Verdict.the-variants.{Kept, Exchanged, Dropped}
 use Rattle.compact.specs.declared.Counts.{Counts}
@@ -34,6 +34,30 @@ cell-in m i h = record {
 }
 
 -- ---- one cell
+
+-- the corners of one that stays are noted in the front of the work, which was lent and is now T
+pub stayed : (w : List ℕ) (n i used kept dropped : ℕ) {T : List ℕ} {points x y z t k : ℕ} → n ≤ length w → length T ≡ length (take n (set w (n + i) k))
+    → CornersNoted (take n (set w (n + i) k)) T x y z t used points
+    → WeighedAs w (T ++ drop n (set w (n + i) k)) n i used kept dropped (record { points = points; cells = kept + 1; dropped = dropped }) k (x ∷ y ∷ z ∷ t ∷ []) []
+stayed w n i used kept dropped {T} {x = x} {y = y} {z = z} {t = t} {k = k} g lt c =
+    let len : length T ≡ n = lt ∙ length-take-le n (set w (n + i) k) (omega (arith, length-set w (n + i) k)) in
+    let front : take n (set w (n + i) k) ≡ take n w = take-set-le n w (n + i) k (omega arith) in
+    record {
+      entry = drop-at T (drop n (set w (n + i) k)) n len ∙ drop-set-add n w i k;
+      numbers = λ s h e.
+          let q = c .numbered s (subst (λ (u : List ℕ). Table u s) (sym front) h) e in
+          (subst (λ (u : List ℕ). Table u (firstUses s (x ∷ y ∷ z ∷ t ∷ []))) (sym (take-at T (drop n (set w (n + i) k)) n len)) (q .0), q .1);
+      kept-cells = omega arith;
+      lost-cells = omega arith;
+      used-few = c .few;
+      kept-few = omega arith;
+      dropped-few = omega arith;
+    }
+
+-- its entry, which stands behind, may be written first
+pub corners-behind : {w : List ℕ} {n i a b c d used kept : ℕ} → StayAsked w n i a b c d used kept → (k : ℕ) → CornersAsked (take n (set w (n + i) k)) a b c d used
+corners-behind {w} {n} {i} {a} {b} {c} {d} {used} q k =
+    subst (λ (u : List ℕ). CornersAsked u a b c d used) (sym (take-set-le n w (n + i) k (omega arith))) (q .corners)
 
 module _ (P C w : List ℕ) (n i : ℕ) (least : Float) (used kept dropped : ℕ) where
   mark-off : getD w (n + i) 0 ≡ 0 → markedIn (drop n w) i ≡ false
@@ -60,26 +84,11 @@ module _ (P C w : List ℕ) (n i : ℕ) (least : Float) (used kept dropped : ℕ
       })
 
   module _ (d : getD w (n + i) 0 ≢ 0) (v : Verdict) (ev : v ≡ verdictAt P C i least) where
-    -- it stays, with the corners x, y, z, t; the front of the work was lent to note them, and is now T
-    pub weighed-stays : {T : List ℕ} {points x y z t k : ℕ} → n ≤ length w → length T ≡ length (take n (set w (n + i) k)) → codeOf v ≡ k
-        → shaped v C i ≡ x ∷ y ∷ z ∷ t ∷ [] → isDropped v ≡ false → CornersNoted (take n (set w (n + i) k)) T x y z t used points
-        → WeighedAt P C w (T ++ drop n (set w (n + i) k)) n i least used kept dropped (record { points = points; cells = kept + 1; dropped = dropped })
+    -- it stays
+    pub weighed-stays : {w′ shape : List ℕ} {k : ℕ} {r : Counts} → codeOf v ≡ k → shaped v C i ≡ shape → isDropped v ≡ false
+        → WeighedAs w w′ n i used kept dropped r k shape [] → WeighedAt P C w w′ n i least used kept dropped r
     unfolding shapeAt lostAt codeAt
-    weighed-stays {T} {x = x} {y = y} {z = z} {t = t} {k = k} g lt ek es el c =
-        let len : length T ≡ n = lt ∙ length-take-le n (set w (n + i) k) (omega (arith, length-set w (n + i) k)) in
-        let front : take n (set w (n + i) k) ≡ take n w = take-set-le n w (n + i) k (omega arith) in
-        rw (mark-on d, ← ev, ek, es, el)
-        (record {
-          entry = drop-at T (drop n (set w (n + i) k)) n len ∙ drop-set-add n w i k;
-          numbers = λ s h e.
-              let q = c .numbered s (subst (λ (u : List ℕ). Table u s) (sym front) h) e in
-              (subst (λ (u : List ℕ). Table u (firstUses s (x ∷ y ∷ z ∷ t ∷ []))) (sym (take-at T (drop n (set w (n + i) k)) n len)) (q .0), q .1);
-          kept-cells = omega arith;
-          lost-cells = omega arith;
-          used-few = c .few;
-          kept-few = omega arith;
-          dropped-few = omega arith;
-        })
+    weighed-stays ek es el h = rw (mark-on d, ← ev, ek, es, el) h
 
     -- it is dropped
     pub weighed-lost : codeOf v ≡ 0 → shaped v C i ≡ [] → isDropped v ≡ true
@@ -97,20 +106,30 @@ module _ (P C w : List ℕ) (n i : ℕ) (least : Float) (used kept dropped : ℕ
           dropped-few = omega arith;
         })
 
--- the corners are there to be noted, after the entry was written
-pub corners-asked : {P C w : List ℕ} {n i used kept dropped a b c d : ℕ} → WeighAsked P C w n i used kept dropped → (k : ℕ)
+-- a cell that is weighed may stay, as it is or with two corners exchanged
+pub stay-asked : {P C w : List ℕ} {n i used kept dropped a b c d : ℕ} → WeighAsked P C w n i used kept dropped
     → a ≡ getD C (4 * i) 0 → b ≡ getD C (4 * i + 1) 0 → c ≡ getD C (4 * i + 2) 0 → d ≡ getD C (4 * i + 3) 0
-    → CornersAsked (take n (set w (n + i) k)) a b c d used
-corners-asked {C = C} {w = w} {n = n} {i = i} q k ea eb ec ed =
-    let len : length (take n (set w (n + i) k)) ≡ n = length-take-le n (set w (n + i) k) (omega (arith, length-set w (n + i) k, q .marks .sized .long)) in
+    → StayAsked w n i a b c d used kept × StayAsked w n i b a c d used kept
+stay-asked {C = C} {w = w} {n = n} {i = i} {used = used} {kept = kept} {a = a} {b = b} {c = c} {d = d} q ea eb ec ed =
+    let len : length (take n w) ≡ n = length-take-le n w (omega (arith, q .marks .sized .long)) in
     let whole : 4 * i + 3 < length C = omega (arith, q .marks .sized .cells .whole, q .inside) in
-    record {
-      a-in = omega (arith, len, q .marks .sized .cells .names (4 * i) (omega arith));
-      b-in = omega (arith, len, q .marks .sized .cells .names (4 * i + 1) (omega arith));
-      c-in = omega (arith, len, q .marks .sized .cells .names (4 * i + 2) (omega arith));
-      d-in = omega (arith, len, q .marks .sized .cells .names (4 * i + 3) (omega arith));
-      few = omega (arith, q .used-few, q .inside, q .marks .sized .cells .few);
-    }
+    let a-in : a < length (take n w) = omega (arith, len, q .marks .sized .cells .names (4 * i) (omega arith)) in
+    let b-in : b < length (take n w) = omega (arith, len, q .marks .sized .cells .names (4 * i + 1) (omega arith)) in
+    let c-in : c < length (take n w) = omega (arith, len, q .marks .sized .cells .names (4 * i + 2) (omega arith)) in
+    let d-in : d < length (take n w) = omega (arith, len, q .marks .sized .cells .names (4 * i + 3) (omega arith)) in
+    let few : used + 4 ≤ 4 * most = omega (arith, q .used-few, q .inside, q .marks .sized .cells .few) in
+    let inside : n + i < length w = omega (arith, q .inside, q .marks .sized .long) in (
+      record {
+        inside = inside;
+        corners = record { a-in = a-in; b-in = b-in; c-in = c-in; d-in = d-in; few = few };
+        kept-few = q .kept-few;
+      },
+      record {
+        inside = inside;
+        corners = record { a-in = b-in; b-in = a-in; c-in = c-in; d-in = d-in; few = few };
+        kept-few = q .kept-few;
+      },
+    )
 
 -- ---- all cells
 

@@ -12,7 +12,7 @@ use Rattle.lists.specs.Runs.{run}
 use Rattle.lists.specs.Tables.{cellsOf}
 use Rattle.volume.specs.Volume.{verdictAt}
 use Rattle.groups.specs.Settled.{Sized}
-use Rattle.compact.specs.Used.{firstUses, usedOf}
+use Rattle.compact.specs.Used.{firstUses, usedOf, CornersAsked}
 use Rattle.volume.specs.declared.Verdict.{Verdict}
 use Rattle.volume.specs.declared.Verdict.the-variants.{Kept, Exchanged, Dropped}
 use Rattle.compact.specs.declared.Counts.{Counts}
@@ -70,6 +70,12 @@ pub record WeighAsked (P C w : List ℕ) (n i used kept dropped : ℕ) : Type 0 
   pub used-few : used ≤ 4 * i
   pub kept-few : kept ≤ i
   pub dropped-few : dropped ≤ i
+
+-- one with the corners a, b, c, d stays
+pub record StayAsked (w : List ℕ) (n i a b c d used kept : ℕ) : Type 0 where
+  pub inside : n + i < length w
+  pub corners : CornersAsked (take n w) a b c d used
+  pub kept-few : kept ≤ i
 
 -- its entry is then code, the mesh has shape more, and the list of cells dropped has lost more
 pub record WeighedAs (w w′ : List ℕ) (n i used kept dropped : ℕ) (r : Counts) (code : ℕ) (shape lost : List ℕ) : Type 0 where

@@ -1,10 +1,11 @@
 // The marked cells weighed, and those that stay stored with the points they use, numbered by first use. In the work table n entries for
 // the points stand in front, and behind them one for each cell, which is not 0 where the cell is marked.
 ghost use mathlib.Core.Path.{_≡_};
+ghost use mathlib.Core.List.{[], _∷_};
 ghost use Prim.Native.Nat.{_-_, _<_};
 ghost use lib.ListN.{length, getD, take, drop, replicate};
 ghost use Rattle.compact.specs.Used.{NoteAsked, NotedIn, CornersAsked, CornersNoted};
-ghost use Rattle.compact.specs.Weighed.{WeighAsked, WeighedAt, Marks, Tallied, markedIn};
+ghost use Rattle.compact.specs.Weighed.{StayAsked, WeighedAs, WeighAsked, WeighedAt, Marks, Tallied, markedIn};
 ghost use Rattle.compact.specs.Placed.{CellAsked, CellStored, placedCells, CellsAsked, PointAsked, PointStored, PointsAsked, PointsStored};
 ghost use Rattle.compact.specs.Kept.{KeptMarked};
 use lists::wide;
@@ -48,6 +49,33 @@ fn note_corners(numbers: &mut [u32], a: usize, b: usize, c: usize, d: usize, cou
     note(numbers, d, three)
 }
 
+// Counts the cell i as one that stays: its entry is then the code, and its corners are noted in the order that it is stored in.
+fn stay(
+    work: &mut [u32],
+    n: usize,
+    i: usize,
+    code: u32,
+    a: usize,
+    b: usize,
+    c: usize,
+    d: usize,
+    used: usize,
+    kept: usize,
+    dropped: usize,
+) -> Counts
+    requires { ⌜ StayAsked (now work) n i a b c d used kept ⌝ }
+    ensures { λ r. ⌜ WeighedAs (now (work .entry)) (now (work .exit)) n i used kept dropped r code (a ∷ b ∷ c ∷ d ∷ []) [] ⌝ }
+{
+    let entry = n + i;
+    work[entry] = code;
+    let points = note_corners(&mut work[..n], a, b, c, d, used);
+    Counts {
+        points,
+        cells: kept + 1,
+        dropped,
+    }
+}
+
 // Weighs the cell i where it is marked. Its entry is then 1 where it is kept, 2 where it is exchanged, and 0 where it is dropped.
 fn weigh(
     points: &[u32],
@@ -78,24 +106,8 @@ fn weigh(
     let d = wide(cells[at + 3]);
     let verdict = volume::verdict_at(points, cells, i, least);
     match verdict {
-        Verdict::Kept(_) => {
-            work[entry] = 1;
-            let points = note_corners(&mut work[..n], a, b, c, d, used);
-            Counts {
-                points,
-                cells: kept + 1,
-                dropped,
-            }
-        }
-        Verdict::Exchanged(_) => {
-            work[entry] = 2;
-            let points = note_corners(&mut work[..n], b, a, c, d, used);
-            Counts {
-                points,
-                cells: kept + 1,
-                dropped,
-            }
-        }
+        Verdict::Kept(_) => stay(work, n, i, 1, a, b, c, d, used, kept, dropped),
+        Verdict::Exchanged(_) => stay(work, n, i, 2, b, a, c, d, used, kept, dropped),
         Verdict::Dropped(_) => {
             work[entry] = 0;
             Counts {

@@ -1,16 +1,12 @@
-use borrow.Author.Needs.{needs}
-use mathlib.Core.Path.{_≡_, refl, sym, ap, ap₂, subst, _∙_}
-use Prim.Native.Nat.{_+_, _*_}
-use native.Mathlib.Omega.{arith}
-use lib.Seq.{length-take-le, length-front}
-use lib.ListN.{set, length-set}
+use mathlib.Core.Path.{refl, sym, _∙_}
 use Rattle.compact.specs.Weighed.{shaped, isDropped, codeOf}
-use Rattle.compact.proofs.Weighing.{cell-in, corners-asked, weighed-not, weighed-stays, weighed-lost}
+use Rattle.compact.proofs.Weighing.{cell-in, stay-asked, weighed-not, weighed-stays, weighed-lost}
+use borrow.Author.Needs.{needs}
 use Rattle.compact.proofs.weigh.Statement.{statement}
 use Rattle.compact.proofs.weigh.Tie as tie
 use Rattle.compact.proofs.weigh.Reads as reads
 use Rattle.compact.proofs.weigh.Lts as lts
-use Rattle.compact.proofs.note_corners.Reads as note-corners-reads
+use Rattle.compact.proofs.stay.Reads as stay-reads
 use Rattle.lists.proofs.wide.Reads as wide-reads
 use Rattle.volume.proofs.verdict_at.Reads as verdict-at-reads
 
@@ -80,70 +76,40 @@ verdict-at-requires c κs = cell-in (c .before .before .before .before .before .
 enum-told : tie.Need-enum-told
 enum-told c = search needs
 
+stay-requires : tie.Need-stay-requires
+stay-requires c κs = stay-asked (c .before .before .before .before .before .before .before .before .before .before .before .before .before .before .before .before .before .pre) (c .before .before .before .before .before .before .before .before .before .before .wide .ensures) (c .before .before .before .before .before .before .before .before .wide2 .ensures) (c .before .before .before .before .before .before .wide3 .ensures) (c .before .before .before .before .wide4 .ensures) .0
+
+enum-told-2 : tie.Need-enum-told-2
+enum-told-2 c = search needs
+
+stay-requires-2 : tie.Need-stay-requires-2
+stay-requires-2 c κs = stay-asked (c .before .before .before .before .before .before .before .before .before .before .before .before .before .before .before .before .before .pre) (c .before .before .before .before .before .before .before .before .before .before .wide .ensures) (c .before .before .before .before .before .before .before .before .wide2 .ensures) (c .before .before .before .before .before .before .wide3 .ensures) (c .before .before .before .before .wide4 .ensures) .1
+
+enum-told-3 : tie.Need-enum-told-3
+enum-told-3 c = search needs
+
 mul-work : tie.Need-mul-work
 mul-work c = search needs
 
 slice-write-work : tie.Need-slice-write-work
 slice-write-work c = search needs
 
-slice-relend-prefix-note-corners : tie.Need-slice-relend-prefix-note-corners
-slice-relend-prefix-note-corners c = omega (arith, c .before .before .before .before .before .before .before .before .before .before .before .before .before .before .before .before .pre .marks .sized .long, length-set (c .before .before .before .before .before .before .before .before .before .before .before .before .before .before .before .before .args .work .now) (c .before .before .before .before .before .before .before .before .before .before .before .before .before .before .before .before .args .n + c .before .before .before .before .before .before .before .before .before .before .before .before .before .before .before .before .args .i) 1)
-
-slice-aggregate-note-corners : tie.Need-slice-aggregate-note-corners
-slice-aggregate-note-corners c = sym (length-take-le _ _ (omega (arith, c .before .before .before .before .before .before .before .before .before .before .before .before .before .before .before .before .before .pre .marks .sized .long, length-set (c .before .before .before .before .before .before .before .before .before .before .before .before .before .before .before .before .before .args .work .now) (c .before .before .before .before .before .before .before .before .before .before .before .before .before .before .before .before .before .args .n + c .before .before .before .before .before .before .before .before .before .before .before .before .before .before .before .before .before .args .i) 1)))
-
-note-corners-requires : tie.Need-note-corners-requires
-note-corners-requires c κs = corners-asked (c .before .before .before .before .before .before .before .before .before .before .before .before .before .before .before .before .before .pre) _ (c .before .before .before .before .before .before .before .before .before .before .wide .ensures) (c .before .before .before .before .before .before .before .before .wide2 .ensures) (c .before .before .before .before .before .before .wide3 .ensures) (c .before .before .before .before .wide4 .ensures)
-
-add-t29 : tie.Need-add-t29
-add-t29 c = search needs
-
-enum-told-2 : tie.Need-enum-told-2
-enum-told-2 c = search needs
-
-mul-work-2 : tie.Need-mul-work-2
-mul-work-2 c = search needs
-
-slice-write-work-2 : tie.Need-slice-write-work-2
-slice-write-work-2 c = search needs
-
-slice-relend-prefix-note-corners-2 : tie.Need-slice-relend-prefix-note-corners-2
-slice-relend-prefix-note-corners-2 c = omega (arith, c .before .before .before .before .before .before .before .before .before .before .before .before .before .before .before .before .pre .marks .sized .long, length-set (c .before .before .before .before .before .before .before .before .before .before .before .before .before .before .before .before .args .work .now) (c .before .before .before .before .before .before .before .before .before .before .before .before .before .before .before .before .args .n + c .before .before .before .before .before .before .before .before .before .before .before .before .before .before .before .before .args .i) 2)
-
-slice-aggregate-note-corners-2 : tie.Need-slice-aggregate-note-corners-2
-slice-aggregate-note-corners-2 c = sym (length-take-le _ _ (omega (arith, c .before .before .before .before .before .before .before .before .before .before .before .before .before .before .before .before .before .pre .marks .sized .long, length-set (c .before .before .before .before .before .before .before .before .before .before .before .before .before .before .before .before .before .args .work .now) (c .before .before .before .before .before .before .before .before .before .before .before .before .before .before .before .before .before .args .n + c .before .before .before .before .before .before .before .before .before .before .before .before .before .before .before .before .before .args .i) 2)))
-
-note-corners-requires-2 : tie.Need-note-corners-requires-2
-note-corners-requires-2 c κs = let q = corners-asked (c .before .before .before .before .before .before .before .before .before .before .before .before .before .before .before .before .before .pre) _ (c .before .before .before .before .before .before .before .before .before .before .wide .ensures) (c .before .before .before .before .before .before .before .before .wide2 .ensures) (c .before .before .before .before .before .before .wide3 .ensures) (c .before .before .before .before .wide4 .ensures) in record { a-in = q .b-in; b-in = q .a-in; c-in = q .c-in; d-in = q .d-in; few = q .few }
-
-add-t33 : tie.Need-add-t33
-add-t33 c = search needs
-
-enum-told-3 : tie.Need-enum-told-3
-enum-told-3 c = search needs
-
-mul-work-3 : tie.Need-mul-work-3
-mul-work-3 c = search needs
-
-slice-write-work-3 : tie.Need-slice-write-work-3
-slice-write-work-3 c = search needs
-
-add-t37 : tie.Need-add-t37
-add-t37 c = search needs
+add-t31 : tie.Need-add-t31
+add-t31 c = search needs
 
 same-length : tie.Need-same-length
-same-length c = length-front (set (c .before .before .before .before .before .before .before .before .before .before .before .before .before .before .before .before .before .before .before .before .args .work .now) (c .before .before .before .before .before .before .before .before .before .before .before .before .before .before .before .before .before .before .before .before .args .n + c .before .before .before .before .before .before .before .before .before .before .before .before .before .before .before .before .before .before .before .before .args .i) 1) (c .before .before .note-corners .last .0) (c .before .before .before .before .before .before .before .before .before .before .before .before .before .before .before .before .before .before .before .before .args .n) (c .before .before .note-corners .kept .0) ∙ length-set (c .before .before .before .before .before .before .before .before .before .before .before .before .before .before .before .before .before .before .before .before .args .work .now) (c .before .before .before .before .before .before .before .before .before .before .before .before .before .before .before .before .before .before .before .before .args .n + c .before .before .before .before .before .before .before .before .before .before .before .before .before .before .before .before .before .before .before .before .args .i) 1
+same-length c = search needs
 
 returns-2 : tie.Need-returns-2
 unfolding codeOf shaped isDropped
-returns-2 c = weighed-stays _ _ _ _ _ _ _ _ _ (c .before .before .before .before .before .before .before .before .before .before .before .before .before .before .before .if1 .left) _ (sym (c .before .before .before .before .enum-told .given .1) ∙ c .before .before .before .before .before .before .verdict-at .ensures) (omega (arith, c .before .before .before .before .before .before .before .before .before .before .before .before .before .before .before .before .before .before .before .before .pre .marks .sized .long)) (c .before .before .note-corners .kept .0) refl (rw (c .before .before .before .before .before .before .before .before .before .before .before .before .before .wide .ensures, c .before .before .before .before .before .before .before .before .before .before .before .wide2 .ensures, c .before .before .before .before .before .before .before .before .before .wide3 .ensures, c .before .before .before .before .before .before .before .wide4 .ensures) refl) refl (c .before .before .note-corners .ensures)
+returns-2 c = weighed-stays _ _ _ _ _ _ _ _ _ (c .before .before .before .before .before .before .before .before .before .before .before .before .before .before .before .if1 .left) _ (sym (c .before .before .before .before .enum-told .given .1) ∙ c .before .before .before .before .before .before .verdict-at .ensures) refl (rw (c .before .before .before .before .before .before .before .before .before .before .before .before .before .wide .ensures, c .before .before .before .before .before .before .before .before .before .before .before .wide2 .ensures, c .before .before .before .before .before .before .before .before .before .wide3 .ensures, c .before .before .before .before .before .before .before .wide4 .ensures) refl) refl (c .before .before .stay .ensures)
 
 same-length-2 : tie.Need-same-length-2
-same-length-2 c = length-front (set (c .before .before .before .before .before .before .before .before .before .before .before .before .before .before .before .before .before .before .before .before .args .work .now) (c .before .before .before .before .before .before .before .before .before .before .before .before .before .before .before .before .before .before .before .before .args .n + c .before .before .before .before .before .before .before .before .before .before .before .before .before .before .before .before .before .before .before .before .args .i) 2) (c .before .before .note-corners2 .last .0) (c .before .before .before .before .before .before .before .before .before .before .before .before .before .before .before .before .before .before .before .before .args .n) (c .before .before .note-corners2 .kept .0) ∙ length-set (c .before .before .before .before .before .before .before .before .before .before .before .before .before .before .before .before .before .before .before .before .args .work .now) (c .before .before .before .before .before .before .before .before .before .before .before .before .before .before .before .before .before .before .before .before .args .n + c .before .before .before .before .before .before .before .before .before .before .before .before .before .before .before .before .before .before .before .before .args .i) 2
+same-length-2 c = search needs
 
 returns-3 : tie.Need-returns-3
 unfolding codeOf shaped isDropped
-returns-3 c = weighed-stays _ _ _ _ _ _ _ _ _ (c .before .before .before .before .before .before .before .before .before .before .before .before .before .before .before .if1 .left) _ (sym (c .before .before .before .before .enum-told2 .given .1) ∙ c .before .before .before .before .before .before .verdict-at .ensures) (omega (arith, c .before .before .before .before .before .before .before .before .before .before .before .before .before .before .before .before .before .before .before .before .pre .marks .sized .long)) (c .before .before .note-corners2 .kept .0) refl (rw (c .before .before .before .before .before .before .before .before .before .before .before .before .before .wide .ensures, c .before .before .before .before .before .before .before .before .before .before .before .wide2 .ensures, c .before .before .before .before .before .before .before .before .before .wide3 .ensures, c .before .before .before .before .before .before .before .wide4 .ensures) refl) refl (c .before .before .note-corners2 .ensures)
+returns-3 c = weighed-stays _ _ _ _ _ _ _ _ _ (c .before .before .before .before .before .before .before .before .before .before .before .before .before .before .before .if1 .left) _ (sym (c .before .before .before .before .enum-told2 .given .1) ∙ c .before .before .before .before .before .before .verdict-at .ensures) refl (rw (c .before .before .before .before .before .before .before .before .before .before .before .before .before .wide .ensures, c .before .before .before .before .before .before .before .before .before .before .before .wide2 .ensures, c .before .before .before .before .before .before .before .before .before .wide3 .ensures, c .before .before .before .before .before .before .before .wide4 .ensures) refl) refl (c .before .before .stay2 .ensures)
 
 same-length-3 : tie.Need-same-length-3
 same-length-3 c = search needs
@@ -178,23 +144,13 @@ weigh-spec =
     wide-requires-4
     verdict-at-requires
     enum-told
+    stay-requires
+    enum-told-2
+    stay-requires-2
+    enum-told-3
     mul-work
     slice-write-work
-    slice-relend-prefix-note-corners
-    slice-aggregate-note-corners
-    note-corners-requires
-    add-t29
-    enum-told-2
-    mul-work-2
-    slice-write-work-2
-    slice-relend-prefix-note-corners-2
-    slice-aggregate-note-corners-2
-    note-corners-requires-2
-    add-t33
-    enum-told-3
-    mul-work-3
-    slice-write-work-3
-    add-t37
+    add-t31
     same-length
     returns-2
     same-length-2
