@@ -1,5 +1,5 @@
 -- Laws of words in bytes. Assumes nothing.
-use mathlib.Core.Path.{_≡_, refl, sym, ap, ap₂, _∙_}
+use mathlib.Core.Path.{_≡_, refl, sym, ap, ap₂, subst, _∙_}
 use mathlib.Core.Logic.{_≢_}
 use mathlib.Core.Bool.{Bool, true, false, _&&_, and-true}
 use mathlib.Core.List.{List, [], _∷_, _++_, append-assoc, append-nil}
@@ -16,7 +16,7 @@ use Rattle.lists.proofs.Lent.{below-at, all-below, below-append, below-end}
 use Rattle.lists.proofs.Listing.{list-is, list-at, length-list, each-on, each-off, each-end}
 use Rattle.lists.proofs.Parts.{sets-append}
 use Rattle.lists.proofs.Tests.{falls, stays}
-use Rattle.words.specs.Words.{bytes4, bytesOf, four, wordAt, placeOf, wordsAt, spanOf}
+use Rattle.words.specs.Words.{bytes4, bytesOf, four, Bytes, turnedOf, wordAt, placeOf, wordsAt, spanOf}
 
 pub length-four : (big : Bool) (x : ℕ) → length (bytes4 big x) ≡ 4
 unfolding bytes4
@@ -292,6 +292,37 @@ bytes-four true x h rest =
 
 at-more : (pre ys : List ℕ) (at k : ℕ) → at ≡ length pre → getD (pre ++ ys) (at + k) 0 ≡ getD ys k 0
 at-more pre ys at k e = ap (λ (n : ℕ). getD (pre ++ ys) (n + k) 0) e ∙ getD-append-add pre ys k 0
+
+-- four bytes are x exactly when, the low one read first, they are what x is turned into
+module _ (a b c d v : ℕ) (s : Bytes a b c d) (h : v < 4294967296) where
+  is-turned : (big : Bool) → four big a b c d ≡ v → four false a b c d ≡ turnedOf big v
+  unfolding turnedOf x
+  is-turned false e = e
+  is-turned true e =
+      subst (λ (y : ℕ). four false a b c d ≡ turnedOf true y) e
+      (sym (rw (x-0 d c b a (s .3) (s .2) (s .1) (s .0), digit-1 d c b a (s .3) (s .2) (s .1) (s .0), digit-2 d c b a (s .3) (s .2) (s .1) (s .0), x-3 d c b a (s .3) (s .2) (s .1) (s .0))))
+
+  turned-is : (big : Bool) → four false a b c d ≡ turnedOf big v → four big a b c d ≡ v
+  unfolding turnedOf x bytes4 wordAt
+  turned-is false e = e
+  turned-is true e =
+      let h3 : v / 16777216 < 256 = omega arith in
+      let h2 : v / 65536 % 256 < 256 = omega arith in
+      let h1 : v / 256 % 256 < 256 = omega arith in
+      let h0 : v % 256 < 256 = omega arith in
+      let ea : a ≡ v / 16777216 = sym (x-0 a b c d (s .0) (s .1) (s .2) (s .3)) ∙ ap (λ (y : ℕ). y % 256) e ∙ x-0 _ _ _ _ h3 h2 h1 h0 in
+      let eb : b ≡ v / 65536 % 256 = sym (digit-1 a b c d (s .0) (s .1) (s .2) (s .3)) ∙ ap (λ (y : ℕ). y / 256 % 256) e ∙ digit-1 _ _ _ _ h3 h2 h1 h0 in
+      let ec : c ≡ v / 256 % 256 = sym (digit-2 a b c d (s .0) (s .1) (s .2) (s .3)) ∙ ap (λ (y : ℕ). y / 65536 % 256) e ∙ digit-2 _ _ _ _ h3 h2 h1 h0 in
+      let ed : d ≡ v % 256 = sym (x-3 a b c d (s .0) (s .1) (s .2) (s .3)) ∙ ap (λ (y : ℕ). y / 16777216) e ∙ x-3 _ _ _ _ h3 h2 h1 h0 in
+      rw (ea, eb, ec, ed) (bytes-four true v h [])
+
+  -- z are the four bytes, the low one first, and y is what v is turned into
+  module _ {y z : ℕ} (big : Bool) (ez : z ≡ four false a b c d) (ey : y ≡ turnedOf big v) where
+    pub turned-same : z ≡ y → four big a b c d ≡ v
+    turned-same e = turned-is big (sym ez ∙ e ∙ ey)
+
+    pub turned-other : z ≢ y → four big a b c d ≢ v
+    turned-other n e = n (ez ∙ is-turned big e ∙ sym ey)
 
 -- a word behind others
 pub word-behind : (big : Bool) (pre ys : List ℕ) (at k : ℕ) → at ≡ length pre → wordAt big (pre ++ ys) (at + k) ≡ wordAt big ys k

@@ -5,7 +5,7 @@ ghost use Prim.Native.Nat.{ℕ, _+_, _*_, _≤_, _<_};
 ghost use lib.ListN.{length, replicate};
 ghost use lib.Seq.{sets};
 ghost use Rattle.lists.specs.Tables.{allBelow, same};
-ghost use Rattle.words.specs.Words.{bytes4, bytesOf, four, wordAt, placeOf, wordsAt, spanOf};
+ghost use Rattle.words.specs.Words.{bytes4, bytesOf, four, Bytes, turnedOf, wordAt, placeOf, wordsAt, spanOf};
 
 fn wide(x: u8) -> u32
     ensures { λ r. ⌜ (r ≡ x) × (r < 256) ⌝ }
@@ -15,7 +15,7 @@ fn wide(x: u8) -> u32
 
 // The number that four bytes are, the low byte first.
 fn low_first(a: u8, b: u8, c: u8, d: u8) -> u32
-    ensures { λ r. ⌜ r ≡ four false a b c d ⌝ }
+    ensures { λ r. ⌜ (r ≡ four false a b c d) × Bytes a b c d ⌝ }
 {
     wide(a) + 256 * wide(b) + 65_536 * wide(c) + 16_777_216 * wide(d)
 }
@@ -81,15 +81,32 @@ pub fn all_below(file: &[u8], at: usize, big: bool, cells: usize, bound: u32) ->
     true
 }
 
-// Whether n words from a place on are all x. No early return, so that many are compared at once.
+// The number that the bytes of x are when they are read the low one first.
+fn turned(x: u32, big: bool) -> u32
+    ensures { λ r. ⌜ r ≡ turnedOf big x ⌝ }
+{
+    if big {
+        let a = (x % 256) as u8;
+        let b = (x / 256 % 256) as u8;
+        let c = (x / 65_536 % 256) as u8;
+        let d = (x / 16_777_216) as u8;
+        return low_first(d, c, b, a);
+    }
+    x
+}
+
+// Whether n words from a place on are all x. x is turned once, in place of each word, and nothing returns early, so that many are
+// compared at once.
 pub fn all_are(file: &[u8], at: usize, big: bool, n: usize, x: u32) -> bool
     requires { ⌜ at + 4 * n ≤ length (now file) ⌝ }
     ensures { λ r. ⌜ r ≡ same (wordsAt big false (now (file .entry)) at n) (replicate n x) ⌝ }
 {
+    let y = turned(x, big);
     let mut all = true;
     let mut i: usize = 0;
     while i < n {
-        if word(file, at + 4 * i, big) != x {
+        let p = at + 4 * i;
+        if low_first(file[p], file[p + 1], file[p + 2], file[p + 3]) != y {
             all = false;
         }
         i += 1;

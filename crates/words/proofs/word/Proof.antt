@@ -32,7 +32,7 @@ low-first-requires c κs = search needs
 
 returns : tie.Need-returns
 unfolding wordAt
-returns c = rw (c .before .before .before .before .before .if1 .taken) (c .low-first .ensures)
+returns c = rw (c .before .before .before .before .before .if1 .taken) (c .low-first .ensures .0)
 
 shared-slice-read-low-first-5 : tie.Need-shared-slice-read-low-first-5
 shared-slice-read-low-first-5 c = search needs
@@ -60,7 +60,7 @@ low-first-requires-2 c κs = search needs
 
 returns-2 : tie.Need-returns-2
 unfolding wordAt
-returns-2 c = rw (c .before .before .before .before .before .if1 .left) (c .low-first2 .ensures)
+returns-2 c = rw (c .before .before .before .before .before .if1 .left) (c .low-first2 .ensures .0)
 
 pub word-spec : {M : Type 1} → statement M
 word-spec =
