@@ -1,5 +1,5 @@
 -- `links::join_apart` meets its contract. Assumes nothing.
-use mathlib.Core.Path.{_≡_, _∙_}
+use mathlib.Core.Path.{_∙_}
 use native.Mathlib.Omega.{arith}
 use Rattle.links.proofs.Linking.{joined-four}
 use borrow.Author.Needs.{needs}
