@@ -22,6 +22,9 @@ fn join_cell(file: &[u8], at: usize, big: bool, led: bool, parent: &mut [u32], i
     let b = lists::wide(words::word_of(file, at, big, led, first + 1));
     let c = lists::wide(words::word_of(file, at, big, led, first + 2));
     let d = lists::wide(words::word_of(file, at, big, led, first + 3));
+    if links::is_joined(parent, a, b, c, d) {
+        return;
+    }
     links::join_four(parent, a, b, c, d);
 }
 

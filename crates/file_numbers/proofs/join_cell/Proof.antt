@@ -1,12 +1,14 @@
 use native.Mathlib.Omega.{arith}
+use Rattle.links.proofs.Linking.{joined-already}
 use Rattle.links.proofs.Vertexes.{joined-cell, cell-points}
-use mathlib.Core.Path.{refl}
+use mathlib.Core.Path.{refl, sym, _∙_}
 use Rattle.file_numbers.proofs.Joining.{cell-few, cell-last, word-in, vertex-is}
 use borrow.Author.Needs.{needs}
 use Rattle.file_numbers.proofs.join_cell.Statement.{statement}
 use Rattle.file_numbers.proofs.join_cell.Tie as tie
 use Rattle.file_numbers.proofs.join_cell.Reads as reads
 use Rattle.file_numbers.proofs.join_cell.Lts as lts
+use Rattle.links.proofs.is_joined.Reads as is-joined-reads
 use Rattle.links.proofs.join_four.Reads as join-four-reads
 use Rattle.lists.proofs.wide.Reads as wide-reads
 use Rattle.words.proofs.word_of.Reads as word-of-reads
@@ -47,27 +49,25 @@ word-of-requires-4 c κs = word-in _ _ _ _ _ (omega arith) (c .before .before .b
 wide-requires-4 : tie.Need-wide-requires-4
 wide-requires-4 c κs = search needs
 
-join-four-requires : tie.Need-join-four-requires
-join-four-requires c κs = (
-  c .before .before .before .before .before .before .before .before .before .before .before .pre .1,
-  cell-points _ _ _ _ _ _ _ (c .before .before .before .before .before .before .before .before .before .before .before .pre .0) (cell-last _ _ _ _ _)
-      (vertex-is _ _ _ _ _ _ _ _ (omega arith) (c .before .before .before .before .before .before .before .wide .ensures) (c .before .before .before .before .before .before .before .before .word-of .ensures))
-      (vertex-is _ _ _ _ _ _ _ _ (omega arith) (c .before .before .before .before .before .wide2 .ensures) (c .before .before .before .before .before .before .word-of2 .ensures))
-      (vertex-is _ _ _ _ _ _ _ _ (omega arith) (c .before .before .before .wide3 .ensures) (c .before .before .before .before .word-of3 .ensures))
-      (vertex-is _ _ _ _ _ _ _ _ (omega arith) (c .before .wide4 .ensures) (c .before .before .word-of4 .ensures)),
-)
+is-joined-requires : tie.Need-is-joined-requires
+is-joined-requires c κs = cell-points _ _ _ _ _ _ _ (c .before .before .before .before .before .before .before .before .before .before .before .pre .0) (cell-last _ _ _ _ _) (vertex-is _ _ _ _ _ _ _ _ (omega arith) (c .before .before .before .before .before .before .before .wide .ensures) (c .before .before .before .before .before .before .before .before .word-of .ensures)) (vertex-is _ _ _ _ _ _ _ _ (omega arith) (c .before .before .before .before .before .wide2 .ensures) (c .before .before .before .before .before .before .word-of2 .ensures)) (vertex-is _ _ _ _ _ _ _ _ (omega arith) (c .before .before .before .wide3 .ensures) (c .before .before .before .before .word-of3 .ensures)) (vertex-is _ _ _ _ _ _ _ _ (omega arith) (c .before .wide4 .ensures) (c .before .before .word-of4 .ensures))
 
 same-length : tie.Need-same-length
 same-length c = search needs
 
 returns : tie.Need-returns
 returns c =
-    joined-cell _ _ _ _ _ _ _ _ _ refl
-    (vertex-is _ _ _ _ _ _ _ _ (omega arith) (c .before .before .before .before .before .before .before .before .before .before .wide .ensures) (c .before .before .before .before .before .before .before .before .before .before .before .word-of .ensures))
-    (vertex-is _ _ _ _ _ _ _ _ (omega arith) (c .before .before .before .before .before .before .before .before .wide2 .ensures) (c .before .before .before .before .before .before .before .before .before .word-of2 .ensures))
-    (vertex-is _ _ _ _ _ _ _ _ (omega arith) (c .before .before .before .before .before .before .wide3 .ensures) (c .before .before .before .before .before .before .before .word-of3 .ensures))
-    (vertex-is _ _ _ _ _ _ _ _ (omega arith) (c .before .before .before .before .wide4 .ensures) (c .before .before .before .before .before .word-of4 .ensures))
-    (c .before .before .join-four .ensures)
+    let p = c .before .before .before .before .before .before .before .before .before .before .before .before .before .pre in
+    joined-cell _ _ _ _ _ _ _ _ _ refl (vertex-is _ _ _ _ _ _ _ _ (omega arith) (c .before .before .before .before .before .before .before .before .before .wide .ensures) (c .before .before .before .before .before .before .before .before .before .before .word-of .ensures)) (vertex-is _ _ _ _ _ _ _ _ (omega arith) (c .before .before .before .before .before .before .before .wide2 .ensures) (c .before .before .before .before .before .before .before .before .word-of2 .ensures)) (vertex-is _ _ _ _ _ _ _ _ (omega arith) (c .before .before .before .before .before .wide3 .ensures) (c .before .before .before .before .before .before .word-of3 .ensures)) (vertex-is _ _ _ _ _ _ _ _ (omega arith) (c .before .before .before .wide4 .ensures) (c .before .before .before .before .word-of4 .ensures)) (joined-already (p .1) (cell-points _ _ _ _ _ _ _ (p .0) (cell-last _ _ _ _ _) (vertex-is _ _ _ _ _ _ _ _ (omega arith) (c .before .before .before .before .before .before .before .before .before .wide .ensures) (c .before .before .before .before .before .before .before .before .before .before .word-of .ensures)) (vertex-is _ _ _ _ _ _ _ _ (omega arith) (c .before .before .before .before .before .before .before .wide2 .ensures) (c .before .before .before .before .before .before .before .before .word-of2 .ensures)) (vertex-is _ _ _ _ _ _ _ _ (omega arith) (c .before .before .before .before .before .wide3 .ensures) (c .before .before .before .before .before .before .word-of3 .ensures)) (vertex-is _ _ _ _ _ _ _ _ (omega arith) (c .before .before .before .wide4 .ensures) (c .before .before .before .before .word-of4 .ensures))) (sym (c .before .is-joined .ensures) ∙ c .if1 .taken))
+
+join-four-requires : tie.Need-join-four-requires
+join-four-requires c κs = (c .before .before .before .before .before .before .before .before .before .before .before .before .before .before .pre .1, cell-points _ _ _ _ _ _ _ (c .before .before .before .before .before .before .before .before .before .before .before .before .before .before .pre .0) (cell-last _ _ _ _ _) (vertex-is _ _ _ _ _ _ _ _ (omega arith) (c .before .before .before .before .before .before .before .before .before .before .wide .ensures) (c .before .before .before .before .before .before .before .before .before .before .before .word-of .ensures)) (vertex-is _ _ _ _ _ _ _ _ (omega arith) (c .before .before .before .before .before .before .before .before .wide2 .ensures) (c .before .before .before .before .before .before .before .before .before .word-of2 .ensures)) (vertex-is _ _ _ _ _ _ _ _ (omega arith) (c .before .before .before .before .before .before .wide3 .ensures) (c .before .before .before .before .before .before .before .word-of3 .ensures)) (vertex-is _ _ _ _ _ _ _ _ (omega arith) (c .before .before .before .before .wide4 .ensures) (c .before .before .before .before .before .word-of4 .ensures)))
+
+same-length-2 : tie.Need-same-length-2
+same-length-2 c = search needs
+
+returns-2 : tie.Need-returns-2
+returns-2 c = joined-cell _ _ _ _ _ _ _ _ _ refl (vertex-is _ _ _ _ _ _ _ _ (omega arith) (c .before .before .before .before .before .before .before .before .before .before .before .before .before .wide .ensures) (c .before .before .before .before .before .before .before .before .before .before .before .before .before .before .word-of .ensures)) (vertex-is _ _ _ _ _ _ _ _ (omega arith) (c .before .before .before .before .before .before .before .before .before .before .before .wide2 .ensures) (c .before .before .before .before .before .before .before .before .before .before .before .before .word-of2 .ensures)) (vertex-is _ _ _ _ _ _ _ _ (omega arith) (c .before .before .before .before .before .before .before .before .before .wide3 .ensures) (c .before .before .before .before .before .before .before .before .before .before .word-of3 .ensures)) (vertex-is _ _ _ _ _ _ _ _ (omega arith) (c .before .before .before .before .before .before .before .wide4 .ensures) (c .before .before .before .before .before .before .before .before .word-of4 .ensures)) (c .before .before .join-four .ensures)
 
 pub join-cell-spec : {M : Type 1} → statement M
 join-cell-spec =
@@ -85,6 +85,9 @@ join-cell-spec =
     add-word-of-3
     word-of-requires-4
     wide-requires-4
-    join-four-requires
+    is-joined-requires
     same-length
-    returns)
+    returns
+    join-four-requires
+    same-length-2
+    returns-2)

@@ -1,6 +1,8 @@
 -- `links::join_cell` meets its contract. Assumes nothing.
+use mathlib.Core.Path.{sym, _∙_}
 use borrow.Author.Tests.{eqb-true, eqb-false}
 use Rattle.lists.proofs.Tests.{failed, passed}
+use Rattle.links.proofs.Linking.{joined-already}
 use Rattle.links.proofs.Vertexes.{apart-cell, joined-cell, cell-points}
 use borrow.Author.Needs.{needs}
 use Rattle.links.proofs.join_cell.Statement.{statement}
@@ -8,6 +10,7 @@ use Rattle.links.proofs.join_cell.Tie as tie
 use Rattle.links.proofs.join_cell.Reads as reads
 use Rattle.links.proofs.join_cell.Lts as lts
 use Rattle.links.proofs.is_free.Reads as is-free-reads
+use Rattle.links.proofs.is_joined.Reads as is-joined-reads
 use Rattle.links.proofs.join_four.Reads as join-four-reads
 use Rattle.lists.proofs.wide.Reads as wide-reads
 
@@ -65,16 +68,31 @@ shared-slice-read-wide-4 c = search needs
 wide-requires-4 : tie.Need-wide-requires-4
 wide-requires-4 c κs = search needs
 
-join-four-requires : tie.Need-join-four-requires
-join-four-requires c κs =
+-- the four vertices that were read are points
+is-joined-requires : tie.Need-is-joined-requires
+is-joined-requires c κs =
     let p = c .before .before .before .before .before .before .before .before .before .before .before .before .before .before .pre in
-    (p .1, cell-points _ _ _ _ _ _ _ (p .0) (p .2) (c .before .before .before .before .before .before .before .wide .ensures) (c .before .before .before .before .before .wide2 .ensures) (c .before .before .before .wide3 .ensures) (c .before .wide4 .ensures))
+    cell-points _ _ _ _ _ _ _ (p .0) (p .2) (c .before .before .before .before .before .before .before .wide .ensures) (c .before .before .before .before .before .wide2 .ensures) (c .before .before .before .wide3 .ensures) (c .before .wide4 .ensures)
 
 same-length : tie.Need-same-length
 same-length c = search needs
 
 returns-2 : tie.Need-returns-2
-returns-2 c = joined-cell _ _ _ _ _ _ _ _ _ (eqb-true _ _ (passed (c .before .before .before .before .before .before .before .before .before .before .before .before .before .is-free .ensures) (c .before .before .before .before .before .before .before .before .before .before .before .before .if1 .left))) (c .before .before .before .before .before .before .before .before .before .before .wide .ensures) (c .before .before .before .before .before .before .before .before .wide2 .ensures) (c .before .before .before .before .before .before .wide3 .ensures) (c .before .before .before .before .wide4 .ensures) (c .before .before .join-four .ensures)
+returns-2 c =
+    let p = c .before .before .before .before .before .before .before .before .before .before .before .before .before .before .before .before .pre in
+    joined-cell _ _ _ _ _ _ _ _ _ (eqb-true _ _ (passed (c .before .before .before .before .before .before .before .before .before .before .before .before .is-free .ensures) (c .before .before .before .before .before .before .before .before .before .before .before .if1 .left))) (c .before .before .before .before .before .before .before .before .before .wide .ensures) (c .before .before .before .before .before .before .before .wide2 .ensures) (c .before .before .before .before .before .wide3 .ensures) (c .before .before .before .wide4 .ensures)
+    (joined-already (p .1) (cell-points _ _ _ _ _ _ _ (p .0) (p .2) (c .before .before .before .before .before .before .before .before .before .wide .ensures) (c .before .before .before .before .before .before .before .wide2 .ensures) (c .before .before .before .before .before .wide3 .ensures) (c .before .before .before .wide4 .ensures)) (sym (c .before .is-joined .ensures) ∙ c .if2 .taken))
+
+join-four-requires : tie.Need-join-four-requires
+join-four-requires c κs =
+    let p = c .before .before .before .before .before .before .before .before .before .before .before .before .before .before .before .before .before .pre in
+    (p .1, cell-points _ _ _ _ _ _ _ (p .0) (p .2) (c .before .before .before .before .before .before .before .before .before .before .wide .ensures) (c .before .before .before .before .before .before .before .before .wide2 .ensures) (c .before .before .before .before .before .before .wide3 .ensures) (c .before .before .before .before .wide4 .ensures))
+
+same-length-2 : tie.Need-same-length-2
+same-length-2 c = search needs
+
+returns-3 : tie.Need-returns-3
+returns-3 c = joined-cell _ _ _ _ _ _ _ _ _ (eqb-true _ _ (passed (c .before .before .before .before .before .before .before .before .before .before .before .before .before .before .before .before .is-free .ensures) (c .before .before .before .before .before .before .before .before .before .before .before .before .before .before .before .if1 .left))) (c .before .before .before .before .before .before .before .before .before .before .before .before .before .wide .ensures) (c .before .before .before .before .before .before .before .before .before .before .before .wide2 .ensures) (c .before .before .before .before .before .before .before .before .before .wide3 .ensures) (c .before .before .before .before .before .before .before .wide4 .ensures) (c .before .before .join-four .ensures)
 
 pub join-cell-spec : {M : Type 1} → statement M
 join-cell-spec =
@@ -98,6 +116,9 @@ join-cell-spec =
     mul-wide-4
     shared-slice-read-wide-4
     wide-requires-4
-    join-four-requires
+    is-joined-requires
     same-length
-    returns-2)
+    returns-2
+    join-four-requires
+    same-length-2
+    returns-3)
