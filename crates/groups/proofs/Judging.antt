@@ -25,10 +25,6 @@ pub sizes-few : (p c a room need : ℕ) → first (sizeRows p c a room need) ≡
 unfolding sizeRows
 sizes-few p c a room need e = few-points p c (front-clear (lengthRows p c) _ e)
 
-pub crossed-proper : (p : ℕ) (C X : List ℕ) (room need : ℕ) → proper (crossedRows p C X room need) ≡ true
-unfolding proper crossedRows sizeRows lengthRows
-crossed-proper p C X room need = refl
-
 pub record Fitting (p : ℕ) (C X : List ℕ) (room need : ℕ) : Type 0 where
   pub cells : Cells C (p / 3)
   pub answers : length X ≡ cellsOf C
