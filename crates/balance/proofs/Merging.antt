@@ -11,8 +11,8 @@ use borrow.Author.Tests.{le-leb, lt-leb}
 use lib.Dec.{eqb}
 use lib.ListN.{length, getD, set, length-set}
 use lib.Seq.{getD-set-same, getD-set-other}
-use Rattle.octants.specs.Oct.{any}
-use Rattle.octants.proofs.Near.{any-found}
+use Rattle.lists.specs.Tests.{any}
+use Rattle.lists.proofs.Any.{any-found}
 use Rattle.balance.specs.Shell.{one, from, some, Merged, touched}
 
 or-true : (a : Bool) → true ≡ a || true

@@ -9,9 +9,12 @@ use native.Mathlib.Nat.{mul-le-mul}
 use lib.Pow.{pow-mono}
 use lib.Dec.{eqb}
 use lib.ListN.{getD, length}
-use Rattle.octants.specs.Oct.{Pos, pos, Tree, Inside, near, balanced}
-use Rattle.octants.proofs.Near.{near-some, some-near, bool-ext}
-use Rattle.octants.specs.Table.{depth, size, off, slot, place, at, bit, table}
+use Rattle.space.specs.Space.{Pos, pos, Inside}
+use Rattle.octants.specs.Oct.{Tree, near, balanced}
+use Rattle.lists.proofs.Bools.{bool-ext}
+use Rattle.octants.proofs.Near.{near-some, some-near}
+use Rattle.lists.specs.Tests.{bit}
+use Rattle.octants.specs.Table.{depth, size, off, slot, place, at, table}
 use Rattle.octants.proofs.TableLaws.{place-slot, slot-lt, table-is, off-mono, off-le, off-suc}
 use Rattle.octants.specs.Levels.{Dims, Found}
 use Rattle.octants.proofs.Levels.{found-depth, found-level, found-room, twice-depth, bit-read}

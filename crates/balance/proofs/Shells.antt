@@ -8,9 +8,12 @@ use native.Mathlib.Decide.{decLe}
 use borrow.Author.Tests.{le-leb, leb-true}
 use lib.Dec.{eqb, leb}
 use lib.ListN.{getD}
-use Rattle.octants.specs.Oct.{Axis, ax, ay, az, Pos, pos, Inside, near}
+use Rattle.space.specs.Space.{Axis, ax, ay, az, Pos, pos, Inside}
+use Rattle.octants.specs.Oct.{near}
 use Rattle.octants.proofs.Axis1.{Close}
-use Rattle.octants.proofs.Near.{and-both, both-and, any-some, some-any, near-some, some-near, bool-ext, clash}
+use Rattle.lists.proofs.Bools.{and-both, both-and, bool-ext, clash}
+use Rattle.lists.proofs.Any.{any-some, some-any}
+use Rattle.octants.proofs.Near.{near-some, some-near}
 use Rattle.octants.specs.Table.{at}
 use Rattle.octants.specs.Levels.{twice}
 use Rattle.balance.specs.Shell.{one, from, some, inRow, inRows, inLayers, Merged, Ends, Blank, Seen, touched}

@@ -6,8 +6,10 @@ use Prim.Native.Nat.{ℕ, _+_, _*_, _-_, _/_, _%_, _≤_, _<_}
 use native.Mathlib.Omega.{arith}
 use native.Mathlib.Nat.{mod-lt, div-lt-iff-lt-mul, div-add-mod'}
 use lib.Arith.{digits-lt}
-use Rattle.octants.specs.Oct.{Pos, pos, any}
-use Rattle.octants.proofs.Near.{any-some, some-any, bool-ext}
+use Rattle.space.specs.Space.{Pos, pos}
+use Rattle.lists.specs.Tests.{any}
+use Rattle.lists.proofs.Bools.{bool-ext}
+use Rattle.lists.proofs.Any.{any-some, some-any}
 use Rattle.octants.specs.Table.{depth, size, off}
 use Rattle.octants.proofs.TableLaws.{factor-right}
 use Rattle.octants.specs.Levels.{Found, twice}

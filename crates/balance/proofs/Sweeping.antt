@@ -11,8 +11,10 @@ use lib.Dec.{eqb}
 use lib.ListN.{getD, set, length, length-set, replicate, length-replicate}
 use lib.Seq.{getD-set-same, getD-set-other}
 use Rattle.lists.proofs.Lent.{zeros-at}
-use Rattle.octants.specs.Oct.{Axis, ax, ay, az, Pos, pos, near}
-use Rattle.octants.specs.Table.{size, slot, place, at, bit}
+use Rattle.space.specs.Space.{Axis, ax, ay, az, Pos, pos}
+use Rattle.octants.specs.Oct.{near}
+use Rattle.lists.specs.Tests.{bit}
+use Rattle.octants.specs.Table.{size, slot, place, at}
 use Rattle.octants.specs.Levels.{Level, twice}
 use Rattle.octants.proofs.Levels.{layer-few}
 use Rattle.balance.specs.Shell.{one, touched, Ends, Blank, Seen}

@@ -5,7 +5,9 @@ use mathlib.Core.List.{List}
 use Prim.Native.Nat.{ℕ, _+_, _*_, _≤_, _<_}
 use lib.Dec.{eqb, leb}
 use lib.ListN.{length, getD}
-use Rattle.octants.specs.Oct.{Pos, pos, any, near}
+use Rattle.space.specs.Space.{Pos, pos}
+use Rattle.lists.specs.Tests.{any}
+use Rattle.octants.specs.Oct.{near}
 use Rattle.octants.specs.Table.{at}
 
 -- entry i is 1

@@ -4,8 +4,10 @@ use mathlib.Core.Bool.{Bool, not, _&&_, _||_}
 use mathlib.Core.List.{List}
 use Prim.Native.Nat.{ℕ, _+_, _-_, _≤_, _<_}
 use lib.ListN.{length, getD}
-use Rattle.octants.specs.Oct.{Pos, pos, Tree, near}
-use Rattle.octants.specs.Table.{depth, size, off, place, at, bit}
+use Rattle.space.specs.Space.{Pos, pos}
+use Rattle.octants.specs.Oct.{Tree, near}
+use Rattle.lists.specs.Tests.{bit}
+use Rattle.octants.specs.Table.{depth, size, off, place, at}
 use Rattle.octants.specs.Levels.{Level, twice}
 use Rattle.balance.specs.Shell.{one}
 

@@ -6,8 +6,7 @@ use Prim.Native.Nat.{ℕ, _+_, _*_, _/_, _≤_, _<_}
 use native.Mathlib.Omega.{arith}
 use lib.ListN.{length, getD, take, drop}
 use lib.Seq.{length-take-le}
-use Rattle.lists.specs.Tables.{cellsOf, most}
-use Rattle.links.specs.Vertices.{Cells}
+use Rattle.mesh.specs.Mesh.{cellsOf, most, Cells}
 use Rattle.components.specs.Numbers.{componentNumbers, Askable, NumberedAt, Linked}
 use Rattle.components.proofs.Counting.{Counting, counting-start, counting-step, k-le, k-number}
 

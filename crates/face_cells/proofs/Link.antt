@@ -4,12 +4,13 @@ use mathlib.Core.Bool.{Bool, true, false, cond, not}
 use mathlib.Core.List.{List, [], _∷_, _++_, append-assoc}
 use Prim.Native.Nat.{ℕ, zero, suc, _+_, _*_, _-_, _/_, _^_, _≤_}
 use native.Mathlib.Omega.{arith}
-use Rattle.octants.specs.Oct.{Axis, ax, ay, az, Pos, pos, width, Closed}
+use Rattle.space.specs.Space.{Axis, ax, ay, az, Pos, pos, next}
+use Rattle.octants.specs.Oct.{width, Closed}
 use Rattle.octants.specs.Table.{read}
-use Rattle.cells.specs.Cells.{next, corner, Cell, cell, Face, face, faceCentre, centre, middle, beside, end, turned, turnsTo, same, over, fan, halves, cellsTo, Side, split, equal, coarser, border, side, finer, faceCells, axisCells, leafCells, flat}
-use Rattle.cells.proofs.Points.{Drawn, Here, drawn-corner, drawn-centre, drawn-opposite, drawn-face, drawn-middle, small, by-axis, DrawnFace}
-use Rattle.cells.specs.Leaf.{IsLeaf}
-use Rattle.numbering.specs.Keys.{keyOf, stride}
+use Rattle.octree_cells.specs.Cells.{corner, Cell, cell, Face, face, faceCentre, centre, middle, beside, end, turned, turnsTo, same, over, fan, halves, cellsTo, Side, split, equal, coarser, border, side, finer, faceCells, axisCells, leafCells, flat}
+use Rattle.octree_cells.proofs.Points.{Drawn, Here, drawn-corner, drawn-centre, drawn-opposite, drawn-face, drawn-middle, small, by-axis, DrawnFace}
+use Rattle.octree_cells.specs.Leaf.{IsLeaf}
+use Rattle.vertex_keys.specs.Keys.{keyOf, stride}
 use Rattle.sides.specs.declared.Beside.{Beside}
 use Rattle.sides.specs.declared.Beside.the-variants.{Split, Equal, Given, Coarser, Border}
 use Rattle.sides.specs.declared.Sides.{Sides}

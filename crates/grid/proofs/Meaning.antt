@@ -7,9 +7,9 @@ use Prim.Native.Nat.{ℕ, zero, suc, _<_}
 use native.Mathlib.Omega.{arith}
 use lib.ListN.{length}
 use lib.Ieee.{Float}
-use Rattle.lists.specs.Ladder.{Row, _when_, first, proper, rising, caused, lower}
+use Rattle.refusals.specs.Rows.{Row, _when_, first, proper, rising, caused, lower}
 use Rattle.lists.specs.Tables.{Determined}
-use Rattle.lists.proofs.Rows.{number-rows, stops, goes-on, exactly}
+use Rattle.refusals.proofs.Rows.{number-rows, stops, goes-on, exactly}
 use Rattle.lists.proofs.Lent.{determined}
 use Rattle.plan.specs.Plan.{planOf, planRows, onPlan}
 use Rattle.plan.specs.Plan as plan
@@ -49,7 +49,7 @@ module _ (b : Bounds) (c : Float) (levels : ℕ) (s C T P w : List ℕ) where
   number-is = go (planOf b c levels) (refusals.number-is b c levels)
     where
       go : (a : Planned) → plan.numberOf a ≡ first (planRows b c levels)
-          → gridNumber (onPlan a Refused (λ p. Rattle.lists.specs.Ladder.unless (first (splitRows p s)) Refused (filledOf p s (length C) (length T) (length P) (length w))))
+          → gridNumber (onPlan a Refused (λ p. Rattle.refusals.specs.Rows.unless (first (splitRows p s)) Refused (filledOf p s (length C) (length T) (length P) (length w))))
           ≡ first (planRows b c levels ++ onPlan a (λ n. []) (λ p. tableRows p s (length C) (length T) (length P) (length w)))
       go (planned.Ready p) e =
           number-rows gridNumber Refused (filledOf p s (length C) (length T) (length P) (length w)) (splitRows p s) _ (split-proper p s) (λ k. refl) (filled-number p s (length C) (length T) (length P) (length w))

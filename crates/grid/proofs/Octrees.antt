@@ -8,15 +8,16 @@ use lib.ListN.{length, getD, take, drop, length-append, length-drop, take-append
 use lib.Seq.{sets, sets-eq, length-take-le, take-at, drop-at, drop-drop, take-append-le, length-sets}
 use borrow.Rule.Slice.PartMut.{putMid, postOf, same-len-mid, mid-len}
 use Rattle.lists.specs.Counts.{cnt, SameSet, SortedTo}
-use Rattle.octants.specs.Oct.{Axis, ax, ay, az, Pos, pos, Tree}
+use Rattle.space.specs.Space.{Axis, ax, ay, az, Pos, pos}
+use Rattle.octants.specs.Oct.{Tree}
 use Rattle.octants.specs.Table.{off, size, depth, read}
-use Rattle.cells.specs.Cells.{Cell, cells, flat}
+use Rattle.octree_cells.specs.Cells.{Cell, cells, flat}
 use Rattle.plan.specs.declared.Plan.{Plan}
-use Rattle.numbering.specs.Keys.{keyOf, tripleOf}
-use Rattle.numbering.specs.Distinct.{distinctSorted, rank, numbered, Rising, Indexes}
-use Rattle.numbering.proofs.Members.{same-distinct}
-use Rattle.numbering.proofs.Ranks.{numbered-front, numbered-rises}
-use Rattle.numbering.proofs.Indexing.{same-rises, rising-sorted, find-ready}
+use Rattle.vertex_keys.specs.Keys.{keyOf, tripleOf}
+use Rattle.vertex_keys.specs.Distinct.{distinctSorted, rank, numbered, Rising, Indexes}
+use Rattle.vertex_keys.proofs.Members.{same-distinct}
+use Rattle.vertex_keys.proofs.Ranks.{numbered-front, numbered-rises}
+use Rattle.vertex_keys.proofs.Indexing.{same-rises, rising-sorted, find-ready}
 use Rattle.lattice.specs.Lattice.{spread}
 use Rattle.lattice.specs.Storing.{dimsOf, tripleAt, pointAt}
 use Rattle.grid.specs.Grid.{gridCells, gridVertices, vertexKeys, numberAt, cellTable, tripleTable, pointTable}
@@ -32,11 +33,11 @@ use lib.ListN.{replicate, length-replicate}
 use lib.Seq.{getD-take}
 use Rattle.lists.specs.Tables.{allBelow}
 use Rattle.lists.specs.Runs.{run}
-use Rattle.lists.proofs.Rows.{and-left, and-right}
+use Rattle.lists.proofs.Bools.{and-left, and-right}
 use Rattle.lists.proofs.Lent.{below-at}
 use Rattle.lists.proofs.Counted.{cnt-at, cnt-find}
 use Rattle.lists.proofs.Running.{length-run, sum-same, sum-flat}
-use Rattle.numbering.proofs.Members.{members, distinct-short}
+use Rattle.vertex_keys.proofs.Members.{members, distinct-short}
 use Rattle.leaves.specs.Leaves.{leafList, alone}
 use Rattle.leaves.proofs.Lines.{leaves-bound}
 use Rattle.leaf_cells.specs.Listed.{levelIn, Placed, nineKeys, keysIn, keysFrom, Standing}

@@ -10,8 +10,8 @@ use lib.ListN.{length, take, drop, replicate}
 use lib.Seq.{length-take-le, sets}
 use Rattle.lists.proofs.Parts.{sets-whole}
 use Rattle.lists.specs.Runs.{Room}
-use Rattle.octants.specs.Oct.{Axis, ax, ay, az, Pos, pos}
-use Rattle.cells.specs.Cells.{Cell, flat}
+use Rattle.space.specs.Space.{Axis, ax, ay, az, Pos, pos}
+use Rattle.octree_cells.specs.Cells.{Cell, flat}
 use Rattle.plan.specs.declared.Plan.{Plan}
 use Rattle.lattice.specs.Lattice.{latticeCells, latticeVertices, latticeTable, spread}
 use Rattle.lattice.specs.Storing.{dimsOf, tripleAt, pointAt, verticesOf}

@@ -10,10 +10,10 @@ use lib.Dec.{eqb}
 use lib.Ieee.{Float}
 use lib.ListN.{length, take, drop, replicate, take-append-drop, drop-of-length-le}
 use lib.Seq.{length-take-le}
-use Rattle.lists.specs.Ladder.{first, proper, unless}
+use Rattle.refusals.specs.Rows.{first, proper, unless}
 use Rattle.lists.specs.Tables.{allAtMost}
-use Rattle.lists.proofs.Rows.{clear, unless-none, unless-some}
-use Rattle.octants.specs.Oct.{Pos, pos}
+use Rattle.refusals.proofs.Rows.{clear, unless-none, unless-some}
+use Rattle.space.specs.Space.{Pos, pos}
 use Rattle.octants.specs.Table.{off, size, depth}
 use Rattle.octants.specs.Judge.{isGraded}
 use Rattle.octants.proofs.Judge.{graded-closes}
@@ -129,7 +129,7 @@ module _ (b : Bounds) (c : Float) (levels : ℕ) (p : Plan) (e : planOf b c leve
       }
 
   module _ (s : List ℕ) (z : first (splitRows p s) ≡ 0) where
-    row : (i : ℕ) → Rattle.lists.proofs.Rows.causeAt i (splitRows p s) ≡ false
+    row : (i : ℕ) → Rattle.refusals.specs.Rows.causeAt i (splitRows p s) ≡ false
     unfolding splitRows proper
     row = clear (splitRows p s) refl z
 

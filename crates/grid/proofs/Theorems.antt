@@ -13,15 +13,15 @@ use Rattle.lists.proofs.Cases.{ltOr}
 use Rattle.lists.proofs.Counted.{hit-self, cnt-at, cnt-find}
 use Rattle.lists.proofs.Lent.{below-at}
 use Rattle.lists.proofs.Listing.{map-at}
-use Rattle.octants.specs.Oct.{ax, ay, az, Pos, pos}
+use Rattle.space.specs.Space.{ax, ay, az, Pos, pos}
 use Rattle.octants.specs.Table.{read}
-use Rattle.cells.specs.Cells.{Cell, cells, flat}
-use Rattle.cells.specs.Vertices.{names}
-use Rattle.numbering.specs.Keys.{keyOf, tripleOf, Packs, Before}
-use Rattle.numbering.specs.Distinct.{rank}
-use Rattle.numbering.proofs.Members.{members}
-use Rattle.numbering.proofs.Ranks.{number-of, distinct-strict}
-use Rattle.numbering.proofs.Packing.{pack, unpack, key-small, key-order}
+use Rattle.octree_cells.specs.Cells.{Cell, cells, flat}
+use Rattle.octree_cells.specs.Vertices.{names}
+use Rattle.vertex_keys.specs.Keys.{keyOf, tripleOf, Packs, Before}
+use Rattle.vertex_keys.specs.Distinct.{rank}
+use Rattle.vertex_keys.proofs.Members.{members}
+use Rattle.vertex_keys.proofs.Ranks.{number-of, distinct-strict}
+use Rattle.vertex_keys.proofs.Packing.{pack, unpack, key-small, key-order}
 use Rattle.sides.specs.Told.{Taken}
 use Rattle.leaf_cells.proofs.Bounds.{far, near-packs, cells-near}
 use Rattle.plan.specs.declared.Plan.{Plan}

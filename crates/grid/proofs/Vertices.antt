@@ -7,8 +7,8 @@ use lib.ListN.{length, getD, take}
 use lib.Seq.{getD-take, length-take-le}
 use Rattle.lists.specs.Runs.{run, sums, Room}
 use Rattle.lists.proofs.Running.{run-same, length-run, sum-same, sum-flat}
-use Rattle.octants.specs.Oct.{Axis, ax, ay, az, Pos}
-use Rattle.numbering.specs.Keys.{tripleOf}
+use Rattle.space.specs.Space.{Axis, ax, ay, az, Pos}
+use Rattle.vertex_keys.specs.Keys.{tripleOf}
 use Rattle.lattice.specs.Lattice.{spread}
 use Rattle.grid.specs.Octree.{threeOf, keyTable}
 

@@ -11,12 +11,13 @@ use lib.Dec.{ltb}
 use lib.Ieee.{Float}
 use lib.ListN.{length, getD, take, drop, length-append, List·getD-append}
 use lib.Seq.{take-at}
-use Rattle.lists.specs.Ladder.{first, unless}
+use Rattle.refusals.specs.Rows.{first, unless}
 use Rattle.lists.specs.Tables.{allBelow}
 use Rattle.lists.proofs.Cases.{eqOr}
-use Rattle.lists.proofs.Rows.{and-left, and-right, unless-none, unless-some}
-use Rattle.octants.specs.Oct.{Axis, ax, ay, az, Pos, pos}
-use Rattle.numbering.specs.Keys.{Before}
+use Rattle.lists.proofs.Bools.{and-left, and-right}
+use Rattle.refusals.proofs.Rows.{unless-none, unless-some}
+use Rattle.space.specs.Space.{Axis, ax, ay, az, Pos, pos}
+use Rattle.vertex_keys.specs.Keys.{Before}
 use Rattle.plan.specs.Plan.{planOf, onPlan}
 use Rattle.plan.specs.declared.Bounds.{Bounds}
 use Rattle.plan.specs.declared.Plan.{Plan}

@@ -2,11 +2,11 @@
 -- the dimensions, s is the split table.
 use mathlib.Core.List.{List, [], _∷_, map}
 use Prim.Native.Nat.{ℕ, zero, suc}
-use Rattle.octants.specs.Oct.{Axis, ax, ay, az, Pos, pos}
+use Rattle.space.specs.Space.{Axis, ax, ay, az, Pos, pos}
 use Rattle.octants.specs.Table.{read}
-use Rattle.cells.specs.Cells.{Cell, cells, flat}
-use Rattle.numbering.specs.Keys.{keyOf, tripleOf}
-use Rattle.numbering.specs.Distinct.{distinctSorted, rank}
+use Rattle.octree_cells.specs.Cells.{Cell, cells, flat}
+use Rattle.vertex_keys.specs.Keys.{keyOf, tripleOf}
+use Rattle.vertex_keys.specs.Distinct.{distinctSorted, rank}
 use Rattle.lattice.specs.Lattice.{latticeCells, latticeVertices, indexOf, spread}
 use Rattle.lattice.specs.Storing.{tripleAt, pointAt, dimsOf}
 use Rattle.plan.specs.declared.Plan.{Plan}

@@ -4,10 +4,10 @@ use mathlib.Core.List.{List, [], _∷_}
 use Prim.Native.Nat.{ℕ, _+_, _*_, _≤_, _<_}
 use lib.ListN.{length, getD, take, drop}
 use Rattle.lists.specs.Runs.{run}
-use Rattle.octants.specs.Oct.{Axis, ax, ay, az, pos}
+use Rattle.space.specs.Space.{Axis, ax, ay, az, pos}
 use Rattle.octants.specs.Table.{read}
-use Rattle.numbering.specs.Keys.{tripleOf}
-use Rattle.numbering.specs.Distinct.{Lookup}
+use Rattle.vertex_keys.specs.Keys.{tripleOf}
+use Rattle.vertex_keys.specs.Distinct.{Lookup}
 use Rattle.sides.specs.Told.{Taken}
 use Rattle.leaves.specs.Leaves.{leafList}
 use mathlib.Core.Bool.{cond}

@@ -7,7 +7,7 @@ use Prim.Native.Nat.{ℕ, _*_, _/_, _≤_, _<_}
 use lib.Dec.{eqb, ltb}
 use lib.ListN.{length}
 use lib.Ieee.{Float}
-use Rattle.lists.specs.Ladder.{Row, _when_, first, unless}
+use Rattle.refusals.specs.Rows.{Row, _when_, first, unless}
 use Rattle.lists.specs.Tables.{allAtMost, front, zeroed}
 use Rattle.octants.specs.Judge.{isGraded}
 use Rattle.octants.specs.Table.{off}

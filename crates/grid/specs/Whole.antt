@@ -7,9 +7,9 @@ use mathlib.Core.List.{List, [], _∷_, map}
 use Prim.Native.Nat.{ℕ, _+_, _*_, _-_, _/_, _≤_, _<_}
 use lib.ListN.{length, getD, take}
 use Rattle.lists.specs.Tables.{allBelow}
-use Rattle.octants.specs.Oct.{Axis, ax, ay, az, Pos, pos}
-use Rattle.cells.specs.Cells.{Cell}
-use Rattle.numbering.specs.Keys.{Before}
+use Rattle.space.specs.Space.{Axis, ax, ay, az, Pos, pos}
+use Rattle.octree_cells.specs.Cells.{Cell}
+use Rattle.vertex_keys.specs.Keys.{Before}
 use Rattle.lattice.specs.Lattice.{evens, odds, size, LatticeVertex, indexOf}
 use Rattle.lattice.specs.Storing.{pointAt, dimsOf}
 use Rattle.plan.specs.declared.Plan.{Plan}

@@ -3,7 +3,7 @@ ghost use mathlib.Core.Path.{_≡_};
 ghost use Prim.Native.Nat.{_*_, _<_, _≤_};
 ghost use mathlib.Core.List.{[]};
 ghost use lib.ListN.{length};
-ghost use Rattle.lists.specs.Ladder.{first};
+ghost use Rattle.refusals.specs.Rows.{first};
 ghost use Rattle.grid.specs.Step.{lacksCells, lacksVertices, splitRows, Planful, Filled, GridDone};
 ghost use Rattle.sides.specs.Told.{Taken};
 ghost use Rattle.grid.specs.Octree.{keyTable, KeysFit, Numberable, Ready, Fillable, Stocked};
@@ -137,8 +137,8 @@ fn number_vertices(
     let list = keys + 1;
     leaves::list_leaves(split, nx, ny, nz, levels, &mut work[list..list + many]);
     leaf_cells::leaf_keys(work, list, many);
-    let v = numbering::number(&mut work[..keys]);
-    numbering::index(&mut work[..list], v);
+    let v = vertex_keys::number(&mut work[..keys]);
+    vertex_keys::index(&mut work[..list], v);
     v
 }
 

@@ -8,11 +8,13 @@ use borrow.Author.Tests.{ltb-false, eqb-true, not-false}
 use lib.Dec.{eqb}
 use lib.ListN.{length, take}
 use lib.Seq.{length-take-le}
-use Rattle.lists.specs.Ladder.{_when_, first, proper}
-use Rattle.lists.specs.Tables.{most, cellsOf, lengthRows, allBelow, allAtMost}
-use Rattle.lists.proofs.Rows.{clear, front-clear, goes-on, few-points}
+use Rattle.refusals.specs.Rows.{_when_, first, proper}
+use Rattle.mesh.specs.Mesh.{most, cellsOf, Cells}
+use Rattle.mesh.specs.Judged.{lengthRows}
+use Rattle.lists.specs.Tables.{allBelow, allAtMost}
+use Rattle.mesh.proofs.Sizes.{few-points}
+use Rattle.refusals.proofs.Rows.{clear, front-clear, goes-on}
 use Rattle.lists.proofs.Lent.{below-at}
-use Rattle.links.specs.Vertices.{Cells}
 use Rattle.groups.specs.Settled.{Sized}
 use Rattle.groups.specs.Judged.{sizeRows, crossedRows}
 

@@ -7,7 +7,7 @@ use native.Mathlib.Nat.{not-suc-le-zero}
 use native.Mathlib.Omega.{arith}
 use lib.ListN.{length, getD, set, take, drop, length-set, length-drop}
 use lib.Seq.{length-take-le, length-front, getD-set-same, getD-set-other, take-at, drop-at, take-set-le, take-set-lt, drop-set-lt, drop-set-add, getD-take, getD-drop}
-use Rattle.lists.specs.Tables.{cellsOf, most}
+use Rattle.mesh.specs.Mesh.{cellsOf, most}
 use Rattle.lists.proofs.Cases.{eqOr, ltOr, below-set}
 use Rattle.links.specs.Labels.{labelAt}
 use Rattle.links.specs.Walks.{Groups}

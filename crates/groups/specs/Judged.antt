@@ -5,8 +5,9 @@ use mathlib.Core.List.{List, [], _∷_, _++_}
 use Prim.Native.Nat.{ℕ, _/_}
 use lib.Dec.{eqb, ltb}
 use lib.ListN.{length}
-use Rattle.lists.specs.Ladder.{Row, _when_}
-use Rattle.lists.specs.Tables.{lengthRows, allBelow, allAtMost}
+use Rattle.refusals.specs.Rows.{Row, _when_}
+use Rattle.mesh.specs.Judged.{lengthRows}
+use Rattle.lists.specs.Tables.{allBelow, allAtMost}
 
 unfoldable pub sizeRows : ℕ → ℕ → ℕ → ℕ → ℕ → List Row
 sizeRows p c a room need = lengthRows p c ++ (5 when not (eqb a (c / 4)) ∷ 5 when ltb room need ∷ [])

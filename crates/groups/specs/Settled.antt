@@ -5,11 +5,11 @@ use mathlib.Core.Logic.{_≢_}
 use mathlib.Core.List.{List}
 use Prim.Native.Nat.{ℕ, _+_, _*_, _≤_, _<_}
 use lib.ListN.{length, getD, set, take, drop}
-use Rattle.lists.specs.Tables.{cellsOf, most}
+use Rattle.mesh.specs.Mesh.{cellsOf, most, Cells}
 use Rattle.links.specs.Labels.{labelAt}
 use Rattle.links.specs.Walks.{Groups}
 use Rattle.links.specs.Forest.{Forest, Rooted}
-use Rattle.links.specs.Vertices.{SameCell, Cells, Joint}
+use Rattle.links.specs.Vertices.{SameCell, Joint}
 
 -- the cells, and as much work as they ask for
 pub record Sized (C w : List ℕ) (n : ℕ) : Type 0 where

@@ -3,7 +3,7 @@
 ghost use mathlib.Core.Path.{_≡_};
 ghost use Prim.Native.Nat.{_+_, _<_};
 ghost use lib.ListN.{length, getD};
-ghost use Rattle.lists.specs.Ladder.{first};
+ghost use Rattle.refusals.specs.Rows.{first};
 ghost use Rattle.groups.specs.Judged.{sizeRows, crossedRows};
 ghost use Rattle.groups.specs.Settled.{RootAsked, RootNoted, Linked, Rooting, LastAsked, LastNoted, Sized, Labelled};
 use lists::wide;
@@ -12,7 +12,7 @@ use lists::wide;
 pub fn judge_sizes(points: usize, cells: usize, answers: usize, room: usize, need: usize) -> u32
     ensures { λ r. ⌜ r ≡ first (sizeRows points cells answers room need) ⌝ }
 {
-    let number = lists::judge_lengths(points, cells);
+    let number = mesh::judge_lengths(points, cells);
     if number != 0 {
         return number;
     }

@@ -10,13 +10,13 @@ use borrow.Author.Tests.{eq-eqb, ne-eqb}
 use lib.Dec.{eqb}
 use lib.ListN.{length, getD, set, take, drop, length-set, length-drop}
 use lib.Seq.{getD-set-same, getD-set-other, take-set-le, drop-set-add, getD-take, getD-drop}
-use Rattle.lists.specs.Counts.{unit}
-use Rattle.lists.specs.Tables.{cellsOf}
+use Rattle.lists.specs.Tests.{bit}
+use Rattle.mesh.specs.Mesh.{cellsOf}
 use Rattle.lists.proofs.Cases.{eqOr, below-set}
 use Rattle.links.specs.Labels.{labelAt}
 use Rattle.groups.specs.Settled.{Sized, Labelled}
 use Rattle.groups.proofs.Highest.{label-below}
-use Rattle.compact.specs.Weighed.{markedIn}
+use Rattle.marked.specs.Weighed.{markedIn}
 use Rattle.keep.specs.Marked.{crustMark, isInside, coverMark, coverIn, ProbeAsked, CoverAsked, MarksOf}
 
 -- ---- marks, one after the other
@@ -24,20 +24,20 @@ use Rattle.keep.specs.Marked.{crustMark, isInside, coverMark, coverIn, P
 -- the first i cells are marked
 pub record Marking (mark : ℕ → Bool) (C w : List ℕ) (n i : ℕ) : Type 0 where
   pub sized : Sized C w n
-  pub marks : (j : ℕ) → j < i → getD (drop n w) j 0 ≡ unit (mark j)
+  pub marks : (j : ℕ) → j < i → getD (drop n w) j 0 ≡ bit (mark j)
 
 pub marking-start : (mark : ℕ → Bool) (C w : List ℕ) (n : ℕ) → Sized C w n → Marking mark C w n 0
 marking-start mark C w n s = record { sized = s; marks = λ j h. absurd (not-suc-le-zero h) }
 
-pub marking-step : (mark : ℕ → Bool) (C w : List ℕ) (n i v : ℕ) → Marking mark C w n i → i < cellsOf C → v ≡ unit (mark i)
+pub marking-step : (mark : ℕ → Bool) (C w : List ℕ) (n i v : ℕ) → Marking mark C w n i → i < cellsOf C → v ≡ bit (mark i)
     → Marking mark C (set w (n + i) v) n (i + 1)
 marking-step mark C w n i v l h e = record {
   sized = record { cells = l .sized .cells; long = length-set w (n + i) v ∙ l .sized .long };
-  marks = subst (λ (u : List ℕ). (j : ℕ) → j < i + 1 → getD u j 0 ≡ unit (mark j)) (sym (drop-set-add n w i v))
-      (below-set (λ j x. x ≡ unit (mark j)) (drop n w) i v (omega (arith, length-drop n w, l .sized .long)) (l .marks) e);
+  marks = subst (λ (u : List ℕ). (j : ℕ) → j < i + 1 → getD u j 0 ≡ bit (mark j)) (sym (drop-set-add n w i v))
+      (below-set (λ j x. x ≡ bit (mark j)) (drop n w) i v (omega (arith, length-drop n w, l .sized .long)) (l .marks) e);
 }
 
-unit-marks : (b : Bool) → not (eqb (unit b) 0) ≡ b
+unit-marks : (b : Bool) → not (eqb (bit b) 0) ≡ b
 unit-marks true = refl
 unit-marks false = refl
 
@@ -87,9 +87,9 @@ module _ (C X Q w₀ : List ℕ) (n : ℕ) (a : CoverAsked C X Q w₀ n) where
         go (inl z) = ap (λ (k : ℕ). not (eqb (getD X i 0) 0) || not (eqb (getD Q k 0) 0)) (label-same z)
         go (inr d) = rw (ne-eqb (getD X i 0) 0 d) refl
 
-    pub behind-step : {v : ℕ} → v ≡ unit (coverIn X Q w n i) → Behind (set w (n + i) v) (i + 1)
+    pub behind-step : {v : ℕ} → v ≡ bit (coverIn X Q w n i) → Behind (set w (n + i) v) (i + 1)
     behind-step {v} e = record {
-      marking = marking-step (coverMark C X Q (cellsOf C)) C w n i v (l .marking) h (e ∙ ap unit cover-is);
+      marking = marking-step (coverMark C X Q (cellsOf C)) C w n i v (l .marking) h (e ∙ ap bit cover-is);
       front = take-set-le n w (n + i) v (omega arith) ∙ l .front;
       rest = λ j b. ap (λ (u : List ℕ). getD u j 0) (drop-set-add n w i v) ∙ getD-set-other (drop n w) i j v 0 (above j b) ∙ l .rest j (omega arith);
     }

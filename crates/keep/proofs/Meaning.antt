@@ -8,20 +8,22 @@ use Prim.Native.Nat.{ℕ, _*_, _/_, _<_}
 use lib.Dec.{eqb, ltb}
 use lib.Ieee.{Float}
 use lib.ListN.{length, getD}
-use Rattle.lists.specs.Ladder.{_when_, first, proper, rising, caused, lower}
-use Rattle.lists.specs.Tables.{cellsOf, lengthRows, Determined}
-use Rattle.lists.proofs.Rows.{number-rows, exactly}
+use Rattle.refusals.specs.Rows.{_when_, first, proper, rising, caused, lower}
+use Rattle.mesh.specs.Mesh.{cellsOf}
+use Rattle.mesh.specs.Judged.{lengthRows}
+use Rattle.lists.specs.Tables.{Determined}
+use Rattle.refusals.proofs.Rows.{number-rows, exactly}
 use Rattle.lists.proofs.Lent.{determined}
 use Rattle.links.specs.Labels.{labelAt}
 use Rattle.links.specs.Walks.{Walk, Share}
 use Rattle.links.proofs.Groups.{same-label}
 use Rattle.groups.specs.Judged.{sizeRows, crossedRows}
-use Rattle.compact.specs.Used.{usedOf}
-use Rattle.compact.specs.Kept.{numberOf, keptOf}
+use Rattle.marked.specs.Used.{usedOf}
+use Rattle.marked.specs.Kept.{numberOf, keptOf}
 use Rattle.keep.specs.Marked.{isInside}
 use Rattle.keep.specs.Step.{needOf, crustRows, coverRows, roomRows, keepCrustRows, keepCoverRows, crustCells, crustDropped, coverCells, coverDropped, keepOf, crustOf, coverOf, KeepDone}
-use Rattle.compact.specs.declared.Kept.{Kept}
-use Rattle.compact.specs.declared.Kept.the-variants.{Done, Refused, Short, Nothing}
+use Rattle.marked.specs.declared.Kept.{Kept}
+use Rattle.marked.specs.declared.Kept.the-variants.{Done, Refused, Short, Nothing}
 
 -- cells that are joined, step by step through shared vertices of cells not crossed, are inside together
 pub group-inside : (C X Q : List ℕ) (n i j : ℕ) → Walk (Share C X (4 * n)) i j → isInside C X Q n i ≡ isInside C X Q n j

@@ -11,20 +11,22 @@ use lib.Ieee.{Float}
 use lib.Ieee.Positive.{positive}
 use lib.ListN.{length, take, drop, replicate, length-append, length-drop}
 use lib.Seq.{length-take-le, length-front, drop-append-add, drop-drop}
-use Rattle.lists.specs.Ladder.{_when_, first, proper, under, unless}
-use Rattle.lists.specs.Tables.{pointsOf, cellsOf, lengthRows, allBelow, allAtMost, among, allFrom, on}
-use Rattle.lists.proofs.Rows.{clear, front-clear, goes-on, unless-none, unless-some, first-under}
+use Rattle.refusals.specs.Rows.{_when_, first, proper, under, unless}
+use Rattle.mesh.specs.Mesh.{pointsOf, cellsOf}
+use Rattle.mesh.specs.Judged.{lengthRows}
+use Rattle.lists.specs.Tables.{allBelow, allAtMost, among, allFrom, on}
+use Rattle.refusals.proofs.Rows.{clear, front-clear, goes-on, unless-none, unless-some, first-under}
 use Rattle.lists.proofs.Lent.{as-lent, as-lent-below}
 use Rattle.groups.specs.Judged.{sizeRows, crossedRows}
 use Rattle.groups.proofs.Judging.{Fitting, sizes-proper, sizes-fit, crossed-fit}
 use Rattle.groups.specs.Settled.{Sized}
-use Rattle.compact.specs.Used.{usedOf}
-use Rattle.compact.specs.Weighed.{Marks}
-use Rattle.compact.specs.Kept.{numberOf, keptOf, KeptAs, KeptMarked}
+use Rattle.marked.specs.Used.{usedOf}
+use Rattle.marked.specs.Weighed.{Marks}
+use Rattle.marked.specs.Kept.{numberOf, keptOf, KeptAs, KeptMarked}
 use Rattle.keep.specs.Marked.{KeepAsked}
 use Rattle.keep.specs.Step.{needOf, crustRows, coverRows, keepOf, workAfter, KeepDone}
-use Rattle.compact.specs.declared.Kept.{Kept}
-use Rattle.compact.specs.declared.Kept.the-variants.{Done, Refused, Short, Nothing}
+use Rattle.marked.specs.declared.Kept.{Kept}
+use Rattle.marked.specs.declared.Kept.the-variants.{Done, Refused, Short, Nothing}
 
 -- ---- what is known where nothing is refused
 

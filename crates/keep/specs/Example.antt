@@ -6,17 +6,19 @@ use Prim.Native.Nat.{ℕ}
 use lib.Ieee.{Float, binary32, ofBits, add, sub, mul, div, neg, lt}
 use lib.ListN.{replicate}
 use Rattle.float32.specs.Operations.{f32}
-use Rattle.lists.specs.Ladder.{first, unless}
-use Rattle.lists.specs.Tables.{lengthRows, allBelow, among}
+use Rattle.refusals.specs.Rows.{first, unless}
+use Rattle.mesh.specs.Judged.{lengthRows}
+use Rattle.lists.specs.Tables.{allBelow, among}
 use Rattle.lists.specs.Runs.{run}
 use Rattle.lists.specs.Appearance.{place, noted}
-use Rattle.links.specs.Labels.{any, shares, touched, takenOver, addCell, labels, labelAt}
+use Rattle.lists.specs.Tests.{any}
+use Rattle.links.specs.Labels.{shares, touched, takenOver, addCell, labels, labelAt}
 use Rattle.volume.specs.Cell.{pointOf, cornersOf}
 use Rattle.volume.specs.Volume.{volumeOf, sizeOf, verdictOf, verdictAt}
 use Rattle.groups.specs.Judged.{sizeRows, crossedRows}
-use Rattle.compact.specs.Used.{firstUses, usedOf, renumbered, pointBits, pointsAt}
-use Rattle.compact.specs.Weighed.{shaped, isDropped, shapeAt, lostAt, finalCells, droppedCells}
-use Rattle.compact.specs.Kept.{numberOf, valuesOf, keptOf, pointsAfter, cellsAfter}
+use Rattle.marked.specs.Used.{firstUses, usedOf, renumbered, pointBits, pointsAt}
+use Rattle.marked.specs.Weighed.{shaped, isDropped, shapeAt, lostAt, finalCells, droppedCells}
+use Rattle.marked.specs.Kept.{numberOf, valuesOf, keptOf, pointsAfter, cellsAfter}
 use Rattle.keep.specs.Marked.{crustMark, isInside, coverMark}
 use Rattle.keep.specs.Step.{crustRows, coverRows, keepOf, coverOf, coverCells, workAfter}
 

@@ -5,10 +5,10 @@ use mathlib.Core.List.{List}
 use Prim.Native.Nat.{ℕ, _+_, _*_, _≤_, _<_}
 use lib.Dec.{eqb}
 use lib.ListN.{length, getD, drop}
-use Rattle.lists.specs.Tables.{cellsOf}
+use Rattle.mesh.specs.Mesh.{cellsOf}
 use Rattle.links.specs.Labels.{labelAt}
 use Rattle.groups.specs.Settled.{Sized, Labelled}
-use Rattle.compact.specs.Weighed.{markedIn}
+use Rattle.marked.specs.Weighed.{markedIn}
 
 -- Crust keeps the cells that are crossed
 unfoldable pub crustMark : List ℕ → ℕ → Bool

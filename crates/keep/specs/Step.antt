@@ -8,16 +8,17 @@ use lib.Dec.{eqb, ltb}
 use lib.Ieee.{Float}
 use lib.Ieee.Positive.{positive}
 use lib.ListN.{length}
-use Rattle.lists.specs.Ladder.{Row, _when_, first, unless}
-use Rattle.lists.specs.Tables.{most, pointsOf, cellsOf, allBelow, allAtMost, zeroed, on}
+use Rattle.refusals.specs.Rows.{Row, _when_, first, unless}
+use Rattle.mesh.specs.Mesh.{most, pointsOf, cellsOf}
+use Rattle.lists.specs.Tables.{allBelow, allAtMost, zeroed, on}
 use Rattle.volume.specs.Volume.{leastOf}
 use Rattle.groups.specs.Judged.{sizeRows, crossedRows}
-use Rattle.compact.specs.Used.{usedOf}
-use Rattle.compact.specs.Weighed.{finalCells, droppedCells}
-use Rattle.compact.specs.Kept.{numberOf, keptOf, pointsAfter, cellsAfter}
+use Rattle.marked.specs.Used.{usedOf}
+use Rattle.marked.specs.Weighed.{finalCells, droppedCells}
+use Rattle.marked.specs.Kept.{numberOf, keptOf, pointsAfter, cellsAfter}
 use Rattle.keep.specs.Marked.{crustMark, coverMark}
-use Rattle.compact.specs.declared.Kept.{Kept}
-use Rattle.compact.specs.declared.Kept.the-variants as kept
+use Rattle.marked.specs.declared.Kept.{Kept}
+use Rattle.marked.specs.declared.Kept.the-variants as kept
 
 -- entries of work: one a cell, and two a point
 abbrev pub needOf : List ℕ → List ℕ → ℕ

@@ -1,15 +1,15 @@
 // The steps `keep_cover` and `keep_crust`: the cells that the surface crosses, with those inside or without them, as a mesh of its own.
 ghost use mathlib.Core.Path.{_≡_};
 ghost use lib.ListN.{length};
-ghost use Rattle.lists.specs.Counts.{unit};
-ghost use Rattle.lists.specs.Ladder.{first};
-ghost use Rattle.lists.specs.Tables.{cellsOf};
+ghost use Rattle.lists.specs.Tests.{bit};
+ghost use Rattle.refusals.specs.Rows.{first};
+ghost use Rattle.mesh.specs.Mesh.{cellsOf};
 ghost use Rattle.groups.specs.Settled.{Sized, Labelled};
-ghost use Rattle.compact.specs.Kept.{KeptMarked};
-ghost use Rattle.compact.specs.Weighed.{Marks};
+ghost use Rattle.marked.specs.Kept.{KeptMarked};
+ghost use Rattle.marked.specs.Weighed.{Marks};
 ghost use Rattle.keep.specs.Marked.{crustMark, coverMark, coverIn, ProbeAsked, CoverAsked, MarksOf, KeepAsked};
 ghost use Rattle.keep.specs.Step.{crustRows, coverRows, crustOf, crustCells, coverOf, coverCells, KeepDone};
-use compact::Kept;
+use marked::Kept;
 
 // The number that Crust is refused with, where the work is to have `need` entries: 1, 4, 5, 6, 8, or 0.
 fn judge_crust(
@@ -64,7 +64,7 @@ fn judge_cover(
 
 // 1 where Crust keeps the cell i: it is crossed.
 fn crust_mark(crossing: &[u8], i: usize) -> u32
-    ensures { λ r. ⌜ r ≡ unit (crustMark (now (crossing .entry)) i) ⌝ }
+    ensures { λ r. ⌜ r ≡ bit (crustMark (now (crossing .entry)) i) ⌝ }
 {
     if links::is_free(crossing, i) {
         return 0;
@@ -75,7 +75,7 @@ fn crust_mark(crossing: &[u8], i: usize) -> u32
 // 1 where Cover keeps the cell i: it is crossed, or the probe answer of the highest cell of its group is 1.
 fn cover_mark(crossing: &[u8], probe: &[u8], work: &[u32], n: usize, i: usize) -> u32
     requires { ⌜ ProbeAsked (now crossing) (now probe) (now work) n i ⌝ }
-    ensures { λ r. ⌜ r ≡ unit (coverIn (now (crossing .entry)) (now (probe .entry)) (now (work .entry)) n i) ⌝ }
+    ensures { λ r. ⌜ r ≡ bit (coverIn (now (crossing .entry)) (now (probe .entry)) (now (work .entry)) n i) ⌝ }
 {
     if !links::is_free(crossing, i) {
         return 1;
@@ -132,7 +132,7 @@ fn keep_crossed(
     ensures { λ r. ⌜ KeptMarked (now (points .entry)) (now (cells .entry)) (crustMark (now (crossing .entry))) least (now («kept_points» .entry)) (now («kept_cells» .entry)) r (now («kept_points» .exit)) (now («kept_cells» .exit)) ⌝ }
 {
     mark_crust(cells, crossing, work, n);
-    compact::keep_marked(points, cells, kept_points, kept_cells, work, n, least)
+    marked::keep_marked(points, cells, kept_points, kept_cells, work, n, least)
 }
 
 // Keeps the crossed cells, and those of the groups whose probe answer is 1.
@@ -152,7 +152,7 @@ fn keep_inside(
 {
     groups::settle(cells, crossing, work, n);
     mark_cover(cells, crossing, probe, work, n);
-    compact::keep_marked(points, cells, kept_points, kept_cells, work, n, least)
+    marked::keep_marked(points, cells, kept_points, kept_cells, work, n, least)
 }
 
 // The mesh of the crossed cells and of those inside. Refused with 1, 4, 5, 6 or 8: all tables are then as lent. With 9, which carries the

@@ -9,12 +9,11 @@ use native.Mathlib.Omega.{arith}
 use borrow.Author.Tests.{lt-ltb, le-ltb}
 use lib.Dec.{ltb}
 use lib.ListN.{length, length-append}
-use Rattle.lists.specs.Counts.{unit}
+use Rattle.lists.specs.Tests.{bit}
 use Rattle.lists.specs.Runs.{run, sums}
 use Rattle.lists.proofs.Cases.{ltOr}
 use Rattle.lists.proofs.Running.{length-run, sum-same, sum-flat, sum-add, sum-before}
-use Rattle.octants.specs.Oct.{Axis, ax, ay, az, Pos, pos}
-use Rattle.cells.specs.Cells.{next}
+use Rattle.space.specs.Space.{Axis, ax, ay, az, Pos, pos, next}
 use Rattle.lattice.specs.Lattice.{evens, odds, size, boxUp, doubled, latticeVertices, complete, octahedron, axisCells, centreCells, latticeCells}
 use Rattle.lattice.proofs.Octahedra.{there, complete-is}
 
@@ -47,21 +46,21 @@ vertices-count d =
 
 -- ---- the cells at a centre
 
-axis-length : (d x : Pos) → ((k : Axis) → x k < odds d k) → (a : Axis) → length (axisCells d (doubled 1 x) a) ≡ 4 * unit (there d x a)
+axis-length : (d x : Pos) → ((k : Axis) → x k < odds d k) → (a : Axis) → length (axisCells d (doubled 1 x) a) ≡ 4 * bit (there d x a)
 unfolding axisCells
 axis-length d x h a = rw (complete-is d x h a) (go (there d x a))
   where
-    go : (t : Bool) → length (cond t (octahedron a (doubled 1 x)) []) ≡ 4 * unit t
+    go : (t : Bool) → length (cond t (octahedron a (doubled 1 x)) []) ≡ 4 * bit t
     go true = unfold octahedron in refl
     go false = refl
 
-centre-length : (d x : Pos) → ((k : Axis) → x k < odds d k) → length (centreCells d (doubled 1 x)) ≡ 4 * unit (there d x ax) + 4 * unit (there d x ay) + 4 * unit (there d x az)
+centre-length : (d x : Pos) → ((k : Axis) → x k < odds d k) → length (centreCells d (doubled 1 x)) ≡ 4 * bit (there d x ax) + 4 * bit (there d x ay) + 4 * bit (there d x az)
 unfolding centreCells
 centre-length d x h = simp length-append (omega (arith, axis-length d x h ax, axis-length d x h ay, axis-length d x h az))
 
 -- ---- sums over the centres
 
-unit-and : (s t : Bool) → unit (s && t) ≡ unit s * unit t
+unit-and : (s t : Bool) → bit (s && t) ≡ bit s * bit t
 unit-and true t = omega arith
 unit-and false t = omega arith
 
@@ -72,16 +71,16 @@ before-last i n = go (ltOr (i + 1) n)
     go (inl h) = lt-ltb (i + 1) n h ∙ sym (lt-ltb i (n - 1) (omega arith))
     go (inr h) = le-ltb (i + 1) n h ∙ sym (le-ltb i (n - 1) (omega arith))
 
-up-to : (m n c : ℕ) → m ≤ n → sums n (λ j. unit (ltb j m) * c) 0 ≡ m * c
+up-to : (m n c : ℕ) → m ≤ n → sums n (λ j. bit (ltb j m) * c) 0 ≡ m * c
 up-to m n c h = let e : m - 0 ≡ m = omega arith in sum-before m n c 0 (omega arith) ∙ rw e refl
 
 three : (n p q r a b c : ℕ) → p ≤ n → q ≤ n → r ≤ n
-    → sums n (λ j. unit (ltb j p) * a + unit (ltb j q) * b + unit (ltb j r) * c) 0 ≡ p * a + q * b + r * c
+    → sums n (λ j. bit (ltb j p) * a + bit (ltb j q) * b + bit (ltb j r) * c) 0 ≡ p * a + q * b + r * c
 three n p q r a b c hp hq hr =
-    sum-add n (λ j. unit (ltb j p) * a + unit (ltb j q) * b) (λ j. unit (ltb j r) * c) 0
+    sum-add n (λ j. bit (ltb j p) * a + bit (ltb j q) * b) (λ j. bit (ltb j r) * c) 0
     ∙ omega (
       arith,
-      sum-add n (λ j. unit (ltb j p) * a) (λ j. unit (ltb j q) * b) 0,
+      sum-add n (λ j. bit (ltb j p) * a) (λ j. bit (ltb j q) * b) 0,
       up-to p n a hp,
       up-to q n b hq,
       up-to r n c hr,
@@ -107,8 +106,8 @@ module _ (d : Pos) where
   hz = d az / 2
 
   at-centre : (i j k : ℕ) → i < ox → j < oy → k < oz → length (centreCells d (doubled 1 (pos i j k)))
-      ≡ unit (ltb i (ox - 1)) * (4 * (unit (ltb j hy) * unit (ltb k hz))) + unit (ltb i hx) * (4 * (unit (ltb j (oy - 1)) * unit (ltb k hz)))
-      + unit (ltb i hx) * (4 * (unit (ltb j hy) * unit (ltb k (oz - 1))))
+      ≡ bit (ltb i (ox - 1)) * (4 * (bit (ltb j hy) * bit (ltb k hz))) + bit (ltb i hx) * (4 * (bit (ltb j (oy - 1)) * bit (ltb k hz)))
+      + bit (ltb i hx) * (4 * (bit (ltb j hy) * bit (ltb k (oz - 1))))
   at-centre i j k hi hj hk =
       centre-length d (pos i j k) inside
       ∙ rw (before-last i ox, before-last j oy, before-last k oz)
@@ -120,14 +119,14 @@ module _ (d : Pos) where
       inside az = hk
 
   row : (j k : ℕ) → j < oy → k < oz → sums ox (λ i. length (centreCells d (doubled 1 (pos i j k)))) 0
-      ≡ unit (ltb j hy) * ((ox - 1) * (4 * unit (ltb k hz))) + unit (ltb j (oy - 1)) * (hx * (4 * unit (ltb k hz))) + unit (ltb j hy) * (hx * (4 * unit (ltb k (oz - 1))))
+      ≡ bit (ltb j hy) * ((ox - 1) * (4 * bit (ltb k hz))) + bit (ltb j (oy - 1)) * (hx * (4 * bit (ltb k hz))) + bit (ltb j hy) * (hx * (4 * bit (ltb k (oz - 1))))
   row j k hj hk =
       sum-same ox _ _ 0 (λ i a b. at-centre i j k (omega arith) hj hk)
       ∙ three ox (ox - 1) hx hx _ _ _ (omega arith) (omega arith) (omega arith)
       ∙ omega arith
 
   layer : (k : ℕ) → k < oz → sums oy (λ j. sums ox (λ i. length (centreCells d (doubled 1 (pos i j k)))) 0) 0
-      ≡ unit (ltb k hz) * (4 * ((ox - 1) * hy)) + unit (ltb k hz) * (4 * (hx * (oy - 1))) + unit (ltb k (oz - 1)) * (4 * (hx * hy))
+      ≡ bit (ltb k hz) * (4 * ((ox - 1) * hy)) + bit (ltb k hz) * (4 * (hx * (oy - 1))) + bit (ltb k (oz - 1)) * (4 * (hx * hy))
   layer k hk =
       sum-same oy _ _ 0 (λ j a b. row j k (omega arith) hk)
       ∙ three oy hy (oy - 1) hy _ _ _ (omega arith) (omega arith) (omega arith)

@@ -12,10 +12,10 @@ use lib.ListN.{length, getD, List·getD-append}
 use lib.Seq.{getD-append-add}
 use Rattle.lists.specs.Runs.{run}
 use Rattle.lists.proofs.Cases.{ltOr, eqOr}
-use Rattle.lists.proofs.Rows.{and-left, and-right}
+use Rattle.lists.proofs.Bools.{and-left, and-right}
 use Rattle.lists.proofs.Running.{length-run, sum-same, sum-flat}
-use Rattle.octants.specs.Oct.{Axis, ax, ay, az, Pos, pos, Inside}
-use Rattle.cells.specs.Cells.{Cell, frame, next}
+use Rattle.space.specs.Space.{Axis, ax, ay, az, Pos, pos, Inside, frame, next}
+use Rattle.octree_cells.specs.Cells.{Cell}
 use Rattle.lattice.specs.Lattice.{evens, odds, size, boxUp, doubled, latticeVertices, LatticeVertex, slot, indexOf, inRange, opposite, corner0, corner1, corner2, complete, octahedron, axisCells, centreCells, latticeCells}
 use Rattle.lattice.proofs.Octahedra.{even-index, odd-index, frame-all}
 use Rattle.lattice.proofs.Formulas.{one-each, vertices-count}

@@ -9,8 +9,8 @@ use borrow.Author.Tests.{eq-eqb, ne-eqb, lt-ltb, le-ltb, le-leb, lt-leb}
 use lib.Dec.{eqb, leb, ltb}
 use lib.ListN.{length}
 use Rattle.lists.proofs.Cases.{ltOr}
-use Rattle.octants.specs.Oct.{Axis, ax, ay, az, Pos, pos}
-use Rattle.cells.specs.Cells.{Cell, cell, frame, next, flat}
+use Rattle.space.specs.Space.{Axis, ax, ay, az, Pos, pos, frame, next}
+use Rattle.octree_cells.specs.Cells.{Cell, cell, flat}
 use Rattle.lattice.specs.Lattice.{evens, odds, size, doubled, slot, indexOf, inRange, opposite, corner0, corner1, corner2, corner3, complete, octahedron, axisCells, octaNumbers, step}
 
 -- ---- the number of a vertex

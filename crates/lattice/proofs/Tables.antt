@@ -9,8 +9,8 @@ use lib.Dec.{ltb}
 use lib.ListN.{length}
 use Rattle.lists.specs.Runs.{run, Splits}
 use Rattle.lists.proofs.Running.{run-same, run-map}
-use Rattle.octants.specs.Oct.{Axis, ax, ay, az, Pos, pos}
-use Rattle.cells.specs.Cells.{Cell, next, flat}
+use Rattle.space.specs.Space.{Axis, ax, ay, az, Pos, pos, next}
+use Rattle.octree_cells.specs.Cells.{Cell, flat}
 use Rattle.plan.specs.declared.Plan.{Plan}
 use Rattle.lattice.specs.Lattice.{evens, odds, size, boxUp, doubled, slot, step, indexOf, axisCells, centreCells, latticeCells, latticeVertices, latticeTable, octaNumbers, spread}
 use Rattle.lattice.specs.Storing.{numbersAt, rowNumbers, cellsAt, rowCells, layerCells, allCells, rowOf, layerOf, boxOf, verticesOf, dimsOf}

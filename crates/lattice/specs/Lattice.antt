@@ -7,8 +7,8 @@ use Prim.Native.Nat.{ℕ, _+_, _*_, _-_, _/_, _%_, _≤_}
 use lib.Dec.{eqb, leb}
 use lib.Ieee.{Float}
 use Rattle.lists.specs.Runs.{run}
-use Rattle.octants.specs.Oct.{Axis, ax, ay, az, Pos, pos}
-use Rattle.cells.specs.Cells.{Cell, cell, frame, next, flat}
+use Rattle.space.specs.Space.{Axis, ax, ay, az, Pos, pos, frame, next}
+use Rattle.octree_cells.specs.Cells.{Cell, cell, flat}
 
 -- how many even and how many odd numbers there are from 0 to dims
 abbrev pub evens : Pos → Pos

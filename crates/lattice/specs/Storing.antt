@@ -7,8 +7,8 @@ use lib.Dec.{ltb}
 use lib.ListN.{length}
 use lib.Ieee.{Float}
 use Rattle.lists.specs.Runs.{run, Stored, Room}
-use Rattle.octants.specs.Oct.{Axis, ax, ay, az, Pos, pos}
-use Rattle.cells.specs.Cells.{flat}
+use Rattle.space.specs.Space.{Axis, ax, ay, az, Pos, pos}
+use Rattle.octree_cells.specs.Cells.{flat}
 use Rattle.plan.specs.Plan.{placeOf}
 use Rattle.lattice.specs.Lattice.{odds, doubled, indexOf, latticeVertices, latticeCells, centreCells, octaNumbers, spread}
 use Rattle.lattice.specs.declared.Counts.{Counts}

@@ -9,17 +9,18 @@ use native.Mathlib.Nat.{not-suc-le-zero, le-of-suc-le-suc}
 use lib.Dec.{leb}
 use lib.ListN.{length, getD}
 use borrow.Author.Tests.{leb-true, le-leb, lt-leb}
-use Rattle.octants.specs.Oct.{Axis, ax, ay, az, Pos, pos, Tree, Inside, width}
-use Rattle.octants.proofs.Near.{or-cases, or-left, or-right, bool-cases, clash}
+use Rattle.space.specs.Space.{Axis, ax, ay, az, Pos, pos, Inside}
+use Rattle.octants.specs.Oct.{Tree, width}
+use Rattle.lists.proofs.Bools.{or-cases, or-left, or-right, bool-cases, clash}
 use Rattle.octants.specs.Table.{read}
-use Rattle.cells.specs.Cells.{Cell, corner, centre, two, boxDown, overLeaves, cells}
-use Rattle.cells.specs.Leaf.{IsLeaf}
-use Rattle.cells.proofs.LeafSome.{leaves-some, box-some}
-use Rattle.cells.specs.Vertices.{leafPoints, names, marks}
-use Rattle.cells.proofs.Vertices.{vertices}
+use Rattle.octree_cells.specs.Cells.{Cell, corner, centre, two, boxDown, overLeaves, cells}
+use Rattle.octree_cells.specs.Leaf.{IsLeaf}
+use Rattle.octree_cells.proofs.LeafSome.{leaves-some, box-some}
+use Rattle.octree_cells.specs.Vertices.{leafPoints, names, marks}
+use Rattle.octree_cells.proofs.Vertices.{vertices}
 use Rattle.lists.proofs.Cases.{ltOr}
-use Rattle.numbering.specs.Keys.{keyOf, Packs}
-use Rattle.numbering.proofs.Packing.{key-small}
+use Rattle.vertex_keys.specs.Keys.{keyOf, Packs}
+use Rattle.vertex_keys.proofs.Packing.{key-small}
 use Rattle.sides.specs.Told.{Taken}
 use Rattle.leaf_cells.specs.Listed.{keysOf, leafKeys}
 use Rattle.leaf_cells.proofs.Keys.{along-few}

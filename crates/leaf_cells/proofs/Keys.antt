@@ -7,16 +7,17 @@ use native.Mathlib.Nat.{mul-le-mul, two-pow-succ, le-trans}
 use lib.ListN.{length, getD}
 use lib.Seq.{sets, getD-set-other, length-sets}
 use lib.Pow.{pow-mono}
-use Rattle.octants.specs.Oct.{Axis, ax, ay, az, Pos, pos, width}
+use Rattle.space.specs.Space.{Axis, ax, ay, az, Pos, pos}
+use Rattle.octants.specs.Oct.{width}
 use Rattle.octants.specs.Levels.{Dims}
 use Rattle.octants.specs.Table.{read}
-use Rattle.cells.specs.Cells.{corner, centre, boxDown, down}
-use Rattle.cells.proofs.Points.{drawn-corner}
-use Rattle.cells.specs.Leaf.{IsLeaf}
-use Rattle.cells.specs.Vertices.{leafPoints}
+use Rattle.octree_cells.specs.Cells.{corner, centre, boxDown, down}
+use Rattle.octree_cells.proofs.Points.{drawn-corner}
+use Rattle.octree_cells.specs.Leaf.{IsLeaf}
+use Rattle.octree_cells.specs.Vertices.{leafPoints}
 use Rattle.lists.specs.Runs.{run, Stored, Storing}
 use Rattle.lists.proofs.Running.{loop-start, loop-next, loop-done}
-use Rattle.numbering.specs.Keys.{keyOf, stride}
+use Rattle.vertex_keys.specs.Keys.{keyOf, stride}
 use Rattle.sides.specs.Told.{Taken}
 use Rattle.face_cells.proofs.Link.{lowKey, half, key-of, key-centre}
 use Rattle.leaf_cells.specs.Listed.{levelIn, placeIn, Placed, AllPlaced, nineKeys, keysOf, keysIn, keysFrom, Standing}

@@ -11,19 +11,22 @@ use lib.ListN.{length, getD, take, drop, length-append}
 use lib.Seq.{getD-take, getD-drop, sets, getD-set-other}
 use lib.Pow.{pow-mono, pow-pos}
 use borrow.Author.Tests.{eqb-true, eq-eqb}
-use Rattle.octants.specs.Oct.{Axis, ax, ay, az, Pos, pos, Tree}
-use Rattle.octants.proofs.Near.{or-cases, clash, pos-eta}
+use Rattle.space.specs.Space.{Axis, ax, ay, az, Pos, pos}
+use Rattle.octants.specs.Oct.{Tree}
+use Rattle.lists.proofs.Bools.{or-cases, clash}
+use Rattle.space.proofs.Space.{pos-eta}
 use Rattle.octants.specs.Table.{read}
-use Rattle.cells.specs.Cells.{Cell, boxDown, down, corner, centre, leafCells, cells, overLeaves, flat}
-use Rattle.cells.proofs.Points.{drawn-corner}
-use Rattle.cells.specs.Leaf.{IsLeaf}
-use Rattle.cells.proofs.LeafSome.{leaves-some}
-use Rattle.cells.specs.Vertices.{leafPoints, names, marks}
-use Rattle.cells.proofs.Vertices.{vertices}
+use Rattle.octree_cells.specs.Cells.{Cell, boxDown, down, corner, centre, leafCells, cells, overLeaves, flat}
+use Rattle.octree_cells.proofs.Points.{drawn-corner}
+use Rattle.octree_cells.specs.Leaf.{IsLeaf}
+use Rattle.octree_cells.proofs.LeafSome.{leaves-some}
+use Rattle.octree_cells.specs.Vertices.{leafPoints, names, marks}
+use Rattle.octree_cells.proofs.Vertices.{vertices}
 use Rattle.lists.specs.Runs.{run}
-use Rattle.lists.specs.Counts.{unit, hit, cnt, SameSet}
+use Rattle.lists.specs.Tests.{bit}
+use Rattle.lists.specs.Counts.{hit, cnt, SameSet}
 use Rattle.lists.proofs.Running.{run-same}
-use Rattle.numbering.specs.Keys.{keyOf}
+use Rattle.vertex_keys.specs.Keys.{keyOf}
 use Rattle.sides.specs.Told.{Taken}
 use Rattle.sides.proofs.Levels.{in-small}
 use Rattle.leaves.specs.Leaves.{packed, alone, leafList}
@@ -124,30 +127,30 @@ module _ (s : List ℕ) (nx ny nz l : ℕ) (h : Taken s nx ny nz l) where
 
 -- ---- the vertices of the cells are those of the leaves
 
-cnt-names : (x : ℕ) (cs : List Cell) → min 1 (cnt x (flat keyOf cs)) ≡ unit (names (λ p. eqb x (keyOf p)) cs)
+cnt-names : (x : ℕ) (cs : List Cell) → min 1 (cnt x (flat keyOf cs)) ≡ bit (names (λ p. eqb x (keyOf p)) cs)
 unfolding cnt flat names hit
 cnt-names x [] = omega arith
 cnt-names x (c ∷ cs) =
     go (eqb x (keyOf (c .c0))) (eqb x (keyOf (c .c1))) (eqb x (keyOf (c .c2))) (eqb x (keyOf (c .c3))) (cnt x (flat keyOf cs))
     (names (λ p. eqb x (keyOf p)) cs) (cnt-names x cs)
   where
-    go : (p q r u : Bool) (n : ℕ) (b : Bool) → min 1 n ≡ unit b → min 1 (unit p + (unit q + (unit r + (unit u + n)))) ≡ unit ((p || q || r || u) || b)
+    go : (p q r u : Bool) (n : ℕ) (b : Bool) → min 1 n ≡ bit b → min 1 (bit p + (bit q + (bit r + (bit u + n)))) ≡ bit ((p || q || r || u) || b)
     go true q r u n b e = omega arith
     go false true r u n b e = omega arith
     go false false true u n b e = omega arith
     go false false false true n b e = omega arith
     go false false false false n b e = omega arith
 
-cnt-marks : (x : ℕ) (ps : List Pos) → min 1 (cnt x (keysOf ps)) ≡ unit (marks (λ p. eqb x (keyOf p)) ps)
+cnt-marks : (x : ℕ) (ps : List Pos) → min 1 (cnt x (keysOf ps)) ≡ bit (marks (λ p. eqb x (keyOf p)) ps)
 unfolding cnt keysOf marks hit
 cnt-marks x [] = omega arith
 cnt-marks x (p ∷ ps) = go (eqb x (keyOf p)) (cnt x (keysOf ps)) (marks (λ p. eqb x (keyOf p)) ps) (cnt-marks x ps)
   where
-    go : (p : Bool) (n : ℕ) (b : Bool) → min 1 n ≡ unit b → min 1 (unit p + n) ≡ unit (p || b)
+    go : (p : Bool) (n : ℕ) (b : Bool) → min 1 n ≡ bit b → min 1 (bit p + n) ≡ bit (p || b)
     go true n b e = omega arith
     go false n b e = omega arith
 
 pub same-vertices : (s : List ℕ) (nx ny nz l : ℕ) → Taken s nx ny nz l
     → SameSet (flat keyOf (cells l (pos nx ny nz) (read (pos nx ny nz) l s))) (leafKeys l (pos nx ny nz) (read (pos nx ny nz) l s))
 same-vertices s nx ny nz l h x =
-    cnt-marks x _ ∙ ap unit (sym (vertices l (pos nx ny nz) (read (pos nx ny nz) l s) (h .graded) (λ p. eqb x (keyOf p)))) ∙ sym (cnt-names x _)
+    cnt-marks x _ ∙ ap bit (sym (vertices l (pos nx ny nz) (read (pos nx ny nz) l s) (h .graded) (λ p. eqb x (keyOf p)))) ∙ sym (cnt-names x _)

@@ -11,22 +11,25 @@ use lib.ListN.{length, getD, take, drop, length-append}
 use lib.Seq.{getD-take, getD-drop}
 use lib.Pow.{pow-mono}
 use borrow.Author.Tests.{eqb-true, eq-eqb}
-use Rattle.octants.specs.Oct.{Axis, ax, ay, az, Pos, pos, Tree, In, Inside, Closed}
-use Rattle.octants.proofs.Near.{both-and, or-cases, or-left, clash, pos-eta}
+use Rattle.space.specs.Space.{Axis, ax, ay, az, Pos, pos, Inside}
+use Rattle.octants.specs.Oct.{Tree, In, Closed}
+use Rattle.lists.proofs.Bools.{both-and, or-cases, or-left, clash}
+use Rattle.space.proofs.Space.{pos-eta}
 use Rattle.octants.proofs.Axis1.{child-in}
 use Rattle.octants.specs.Table.{read, size, place}
 use Rattle.octants.proofs.TableLaws.{place-in}
-use Rattle.cells.specs.Cells.{Cell, down, boxDown, below, child, two, overLeaves, leafCells, cells, flat}
-use Rattle.cells.specs.Leaf.{opened}
-use Rattle.cells.proofs.Opened.{own-opened, opened-parent, parent-child, two-lt}
-use Rattle.cells.specs.Leaf.{IsLeaf}
-use Rattle.cells.proofs.LeafSome.{leaves-some}
-use Rattle.cells.specs.Vertices.{leafPoints, names, marks}
-use Rattle.cells.proofs.Vertices.{vertices}
+use Rattle.octree_cells.specs.Cells.{Cell, down, boxDown, below, child, two, overLeaves, leafCells, cells, flat}
+use Rattle.octree_cells.specs.Leaf.{opened}
+use Rattle.octree_cells.proofs.Opened.{own-opened, opened-parent, parent-child, two-lt}
+use Rattle.octree_cells.specs.Leaf.{IsLeaf}
+use Rattle.octree_cells.proofs.LeafSome.{leaves-some}
+use Rattle.octree_cells.specs.Vertices.{leafPoints, names, marks}
+use Rattle.octree_cells.proofs.Vertices.{vertices}
 use Rattle.lists.specs.Runs.{run}
-use Rattle.lists.specs.Counts.{unit, hit, cnt, SameSet}
+use Rattle.lists.specs.Tests.{bit}
+use Rattle.lists.specs.Counts.{hit, cnt, SameSet}
 use Rattle.lists.proofs.Running.{run-same}
-use Rattle.numbering.specs.Keys.{keyOf}
+use Rattle.vertex_keys.specs.Keys.{keyOf}
 use Rattle.sides.specs.Told.{Taken}
 use Rattle.sides.proofs.Levels.{in-small}
 use Rattle.leaves.specs.Leaves.{packed, alone, leafList}

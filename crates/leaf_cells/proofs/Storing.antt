@@ -5,10 +5,10 @@ use Prim.Native.Nat.{ℕ, _+_, _-_, _*_, _%_, _^_, _≤_, _<_}
 use native.Mathlib.Omega.{arith}
 use lib.ListN.{length, getD}
 use lib.Seq.{sets}
-use Rattle.octants.specs.Oct.{ax, ay, az, Pos, pos}
+use Rattle.space.specs.Space.{ax, ay, az, Pos, pos}
 use Rattle.octants.specs.Table.{read}
-use Rattle.cells.specs.Cells.{Cell, leafCells, cells, flat}
-use Rattle.cells.specs.Leaf.{IsLeaf}
+use Rattle.octree_cells.specs.Cells.{Cell, leafCells, cells, flat}
+use Rattle.octree_cells.specs.Leaf.{IsLeaf}
 use Rattle.lists.specs.Runs.{run, Stored, Storing, Room}
 use Rattle.lists.proofs.Running.{loop-start, loop-next, loop-room, loop-done, storing-length}
 use Rattle.lists.proofs.Parts.{sets-whole}

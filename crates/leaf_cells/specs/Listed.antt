@@ -4,13 +4,14 @@ use mathlib.Core.Bool.{Bool}
 use mathlib.Core.List.{List, [], _∷_}
 use Prim.Native.Nat.{ℕ, _+_, _*_, _/_, _%_, _^_, _≤_, _<_}
 use lib.ListN.{length, getD, take, drop}
-use Rattle.octants.specs.Oct.{Axis, Pos, pos, Tree}
+use Rattle.space.specs.Space.{Axis, Pos, pos}
+use Rattle.octants.specs.Oct.{Tree}
 use Rattle.octants.specs.Table.{read}
-use Rattle.cells.specs.Cells.{overLeaves}
-use Rattle.cells.specs.Vertices.{leafPoints}
+use Rattle.octree_cells.specs.Cells.{overLeaves}
+use Rattle.octree_cells.specs.Vertices.{leafPoints}
 use Rattle.lists.specs.Runs.{run}
-use Rattle.numbering.specs.Keys.{keyOf}
-use Rattle.numbering.specs.Distinct.{rank}
+use Rattle.vertex_keys.specs.Keys.{keyOf}
+use Rattle.vertex_keys.specs.Distinct.{rank}
 use Rattle.leaves.specs.Leaves.{leafList}
 
 abbrev pub levelIn : ℕ → ℕ

@@ -7,12 +7,12 @@ ghost use mathlib.Core.List.{List};
 ghost use Prim.Native.Nat.{ℕ, _+_, _*_, _^_, _≤_, _<_};
 ghost use lib.ListN.{length, getD};
 ghost use lib.Seq.{sets};
-ghost use Rattle.octants.specs.Oct.{pos};
+ghost use Rattle.space.specs.Space.{pos};
 ghost use Rattle.octants.specs.Table.{read};
-ghost use Rattle.cells.specs.Cells.{leafCells, cells, flat};
-ghost use Rattle.cells.specs.Leaf.{IsLeaf};
+ghost use Rattle.octree_cells.specs.Cells.{leafCells, cells, flat};
+ghost use Rattle.octree_cells.specs.Leaf.{IsLeaf};
 ghost use Rattle.lists.specs.Runs.{Stored, Room};
-ghost use Rattle.numbering.specs.Distinct.{Lookup};
+ghost use Rattle.vertex_keys.specs.Distinct.{Lookup};
 ghost use Rattle.sides.specs.Told.{Taken};
 ghost use Rattle.leaf_cells.specs.Listed.{levelIn, placeIn, Placed, AllPlaced, nineKeys, keysIn, keysFrom, numberOf, Standing};
 

@@ -7,10 +7,11 @@ use native.Mathlib.Omega.{arith}
 use native.Mathlib.Nat.{suc-add, suc-mul, zero-add, zero-mul, mul-comm, pow-succ', pow-le-pow-right, mul-le-mul}
 use native.Mathlib.Numerals.{sub-one}
 use lib.ListN.{length, length-append}
-use Rattle.octants.specs.Oct.{Axis, ax, ay, az, Pos, pos, Tree}
+use Rattle.space.specs.Space.{Axis, ax, ay, az, Pos, pos}
+use Rattle.octants.specs.Oct.{Tree}
 use Rattle.octants.specs.Table.{size, slot, place}
 use Rattle.octants.proofs.TableLaws.{place-slot}
-use Rattle.cells.specs.Cells.{down, boxDown, below, child, two, overLeaves}
+use Rattle.octree_cells.specs.Cells.{down, boxDown, below, child, two, overLeaves}
 use Rattle.leaves.specs.Leaves.{kids}
 
 module _ {A : Type 0} where

@@ -8,16 +8,19 @@ use native.Mathlib.Nat.{mul-le-mul, le-trans, pow-le-pow-right}
 use native.Mathlib.Numerals.{add-one}
 use lib.ListN.{length, length-append, set}
 use lib.Seq.{sets, set-out, length-sets}
-use Rattle.octants.specs.Oct.{Axis, ax, ay, az, Pos, pos, Tree, In, Inside, counts, hit, within, parent}
-use Rattle.octants.proofs.Near.{in-within, both-and, clash}
+use Rattle.space.specs.Space.{Axis, ax, ay, az, Pos, pos, Inside}
+use Rattle.octants.specs.Oct.{Tree, In, counts, hit, within, parent}
+use Rattle.lists.proofs.Bools.{both-and, clash}
+use Rattle.octants.proofs.Near.{in-within}
 use Rattle.octants.proofs.Axis1.{child-in}
-use Rattle.octants.specs.Table.{read, place, size, bit}
+use Rattle.lists.specs.Tests.{bit}
+use Rattle.octants.specs.Table.{read, place, size}
 use Rattle.octants.proofs.TableLaws.{place-in}
-use Rattle.cells.specs.Cells.{Cell, Face, Side, split, equal, coarser, border, middle, down, below, child, two, leafCells, cells, faceCells, side, face, finer}
-use Rattle.cells.proofs.Counting.{cells-length, countAt, edgesOf}
-use Rattle.cells.specs.Leaf.{opened}
-use Rattle.cells.proofs.Opened.{own-opened, opened-parent, parent-child}
-use Rattle.cells.specs.Leaf.{IsLeaf}
+use Rattle.octree_cells.specs.Cells.{Cell, Face, Side, split, equal, coarser, border, middle, down, below, child, two, leafCells, cells, faceCells, side, face, finer}
+use Rattle.octree_cells.proofs.Counting.{cells-length, countAt, edgesOf}
+use Rattle.octree_cells.specs.Leaf.{opened}
+use Rattle.octree_cells.proofs.Opened.{own-opened, opened-parent, parent-child}
+use Rattle.octree_cells.specs.Leaf.{IsLeaf}
 use Rattle.lists.proofs.Parts.{sets-append, sets-whole}
 use Rattle.sides.specs.Told.{Taken}
 use Rattle.leaves.specs.declared.Tally.{Tally}

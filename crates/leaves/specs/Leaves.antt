@@ -5,10 +5,11 @@ use mathlib.Core.List.{List, [], _∷_}
 use Prim.Native.Nat.{ℕ, _+_, _-_, _*_, _^_, _≤_, _<_}
 use lib.ListN.{length}
 use lib.Seq.{sets}
-use Rattle.octants.specs.Oct.{Axis, ax, ay, az, Pos, pos, Tree, In}
+use Rattle.space.specs.Space.{Axis, ax, ay, az, Pos, pos}
+use Rattle.octants.specs.Oct.{Tree, In}
 use Rattle.octants.specs.Table.{read, place}
-use Rattle.cells.specs.Cells.{Cell, down, below, child, two, overLeaves, leafCells, cells}
-use Rattle.cells.specs.Leaf.{opened}
+use Rattle.octree_cells.specs.Cells.{Cell, down, below, child, two, overLeaves, leafCells, cells}
+use Rattle.octree_cells.specs.Leaf.{opened}
 use Rattle.leaves.specs.declared.Tally.{Tally}
 
 -- a leaf in one number: its level, then its place by x, y and z

@@ -7,10 +7,10 @@ ghost use mathlib.Core.List.{List, [], _∷_};
 ghost use Prim.Native.Nat.{ℕ, _+_, _*_, _^_, _≤_, _<_};
 ghost use lib.ListN.{length};
 ghost use lib.Seq.{sets};
-ghost use Rattle.octants.specs.Oct.{pos};
+ghost use Rattle.space.specs.Space.{pos};
 ghost use Rattle.octants.specs.Table.{read};
-ghost use Rattle.cells.specs.Cells.{leafCells, cells};
-ghost use Rattle.cells.specs.Leaf.{IsLeaf};
+ghost use Rattle.octree_cells.specs.Cells.{leafCells, cells};
+ghost use Rattle.octree_cells.specs.Leaf.{IsLeaf};
 ghost use Rattle.sides.specs.Told.{Taken};
 ghost use Rattle.leaves.specs.Leaves.{packed, leafList, Walked, Left, Counted, leavesBelow, cellsBelow, leavesOf, cellsOf};
 

@@ -7,9 +7,12 @@ use native.Mathlib.Omega.{arith}
 use native.Mathlib.Nat.{mul-le-mul, div-lt-iff-lt-mul, div-one, pow-zero, add-zero}
 use borrow.Author.Tests.{eq-eqb, ne-eqb, lt-ltb, le-ltb, lt-leb, le-leb}
 use lib.Pow.{pow-add, pow-pos}
-use Rattle.octants.specs.Oct.{Axis, ax, ay, az, Pos, pos, Tree, In, Inside, counts, within, hit, any, width}
-use Rattle.octants.proofs.Near.{in-within, any-found}
-use Rattle.cells.specs.Cells.{Cover, none, leaf, up, descent, covering, ofLevel, isLeaf, leafAt, leafAround, onGrid, finer}
+use Rattle.space.specs.Space.{Axis, ax, ay, az, Pos, pos, Inside}
+use Rattle.lists.specs.Tests.{any}
+use Rattle.octants.specs.Oct.{Tree, In, counts, within, hit, width}
+use Rattle.lists.proofs.Any.{any-found}
+use Rattle.octants.proofs.Near.{in-within}
+use Rattle.octree_cells.specs.Cells.{Cover, none, leaf, up, descent, covering, ofLevel, isLeaf, leafAt, leafAround, onGrid, finer}
 use Rattle.lookup.specs.Lookup.{placeOver, leafOver, descentOf, coveredOf, coverOf}
 use Rattle.lookup.specs.declared.Covered.{Covered}
 use Rattle.lookup.specs.declared.Covered.the-variants.{Split, Outside}

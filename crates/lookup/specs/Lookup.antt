@@ -2,10 +2,11 @@
 use mathlib.Core.Path.{_≡_}
 use mathlib.Core.Bool.{cond}
 use Prim.Native.Nat.{ℕ, zero, suc, _+_, _-_, _/_, _^_, _≤_}
-use Rattle.octants.specs.Oct.{Pos, pos, Tree, counts, within}
+use Rattle.space.specs.Space.{Pos, pos}
+use Rattle.octants.specs.Oct.{Tree, counts, within}
 use Rattle.octants.specs.Table.{off}
 use Rattle.octants.specs.Levels.{Dims}
-use Rattle.cells.specs.Cells.{Cover, none, leaf}
+use Rattle.octree_cells.specs.Cells.{Cover, none, leaf}
 use Rattle.lookup.specs.declared.Covered.{Covered}
 use Rattle.lookup.specs.declared.Covered.the-variants.{Leaf, Split, Outside}
 

@@ -2,9 +2,11 @@
 ghost use mathlib.Core.Path.{_≡_};
 ghost use Prim.Native.Nat.{ℕ, _+_, _*_, _/_, _≤_, _<_};
 ghost use lib.ListN.{length};
-ghost use Rattle.octants.specs.Oct.{pos, any, In, width as widthOf};
+ghost use Rattle.space.specs.Space.{pos};
+ghost use Rattle.lists.specs.Tests.{any};
+ghost use Rattle.octants.specs.Oct.{In, width as widthOf};
 ghost use Rattle.octants.specs.Table.{read};
-ghost use Rattle.cells.specs.Cells.{isLeaf, leafAt, leafAround, finer};
+ghost use Rattle.octree_cells.specs.Cells.{isLeaf, leafAt, leafAround, finer};
 ghost use Rattle.lookup.specs.Lookup.{Covers, descentOf, coveredOf};
 
 // The leaf that covers an octant, with its level and place; split, so that several leaves cover it; or out of range.

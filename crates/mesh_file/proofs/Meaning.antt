@@ -9,9 +9,10 @@ use borrow.Author.Tests.{le-ltb, eqb-true, ltb-false, not-false}
 use lib.Dec.{ltb}
 use lib.ListN.{length, take}
 use lib.Seq.{take-at}
-use Rattle.lists.specs.Ladder.{Row, _when_, first, proper}
-use Rattle.lists.specs.Tables.{most, pointsOf, cellsOf, allBelow, front, on, Determined}
-use Rattle.lists.proofs.Rows.{clear, exactly, number-rows, unless-none, unless-some}
+use Rattle.refusals.specs.Rows.{Row, _when_, first, proper}
+use Rattle.mesh.specs.Mesh.{most, pointsOf, cellsOf}
+use Rattle.lists.specs.Tables.{allBelow, front, on, Determined}
+use Rattle.refusals.proofs.Rows.{clear, exactly, number-rows, unless-none, unless-some}
 use Rattle.lists.proofs.Cases.{eqOr}
 use Rattle.lists.proofs.Lent.{as-lent, as-new, determined}
 use Rattle.words.proofs.Words.{length-words, words-small}

@@ -10,18 +10,18 @@ use borrow.Author.Tests.{lt-ltb, le-ltb, ltb-false}
 use lib.Dec.{ltb}
 use lib.ListN.{length, take, drop, replicate}
 use lib.Seq.{length-take-le}
-use Rattle.lists.specs.Ladder.{first, under, unless}
-use Rattle.lists.specs.Tables.{most, cellsOf, allBelow, same, allFrom}
-use Rattle.lists.proofs.Rows.{unless-none, unless-some, first-under}
+use Rattle.refusals.specs.Rows.{first, under, unless}
+use Rattle.mesh.specs.Mesh.{most, cellsOf, Cells}
+use Rattle.lists.specs.Tables.{allBelow, same, allFrom}
+use Rattle.refusals.proofs.Rows.{unless-none, unless-some, first-under}
 use Rattle.lists.proofs.Lent.{below-at, as-lent, as-new, as-lent-below}
 use Rattle.lists.proofs.Listing.{same-length}
 use Rattle.words.specs.Words.{wordsAt, spanOf}
 use Rattle.words.proofs.Words.{length-words}
-use Rattle.links.specs.Vertices.{Cells}
 use Rattle.components.specs.Numbers.{componentNumbers, Fits}
-use Rattle.file_numbers.specs.Stored.{Told}
+use Rattle.file_components.specs.Stored.{Told}
 use Rattle.components.proofs.Patterns.{length-components}
-use Rattle.file_numbers.proofs.Comparing.{cells-in}
+use Rattle.file_components.proofs.Comparing.{cells-in}
 use Rattle.mesh_file.specs.File.{countAt, endOf, Standing, second, third, end, pointCount, cellCount, pointsIn, cellsIn, numbersIn}
 use Rattle.mesh_file.specs.Read.{rightNumbers, sectionRows, fileRows, shortOf, loadedOf, ReadDone, Sound, Matched}
 use Rattle.mesh_file.specs.declared.Loaded.{Loaded}

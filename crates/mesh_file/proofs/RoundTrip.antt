@@ -7,7 +7,8 @@ use Prim.Native.Nat.{ℕ, zero, suc, _+_, _-_, _*_, _/_, _≤_, _<_}
 use native.Mathlib.Omega.{arith}
 use lib.ListN.{length, getD, take, drop, length-append, length-drop, drop-of-length-le}
 use lib.Seq.{drop-drop, take-add, take-all, length-take-le}
-use Rattle.lists.specs.Tables.{most, pointsOf, cellsOf, allBelow}
+use Rattle.mesh.specs.Mesh.{most, pointsOf, cellsOf}
+use Rattle.lists.specs.Tables.{allBelow}
 use Rattle.lists.specs.Appearance.{place, noted, seenOf}
 use Rattle.lists.specs.Tables.{same}
 use Rattle.lists.proofs.Cases.{ltOr}

@@ -9,10 +9,11 @@ use native.Mathlib.Omega.{arith}
 use borrow.Author.Tests.{lt-ltb, le-ltb, ltb-false, not-false}
 use lib.Dec.{ltb}
 use lib.ListN.{length}
-use Rattle.lists.specs.Ladder.{first, proper, unless}
-use Rattle.lists.specs.Tables.{most, allBelow}
+use Rattle.refusals.specs.Rows.{first, proper, unless}
+use Rattle.mesh.specs.Mesh.{most}
+use Rattle.lists.specs.Tables.{allBelow}
 use Rattle.lists.proofs.Cases.{ltOr}
-use Rattle.lists.proofs.Rows.{clear, goes-on}
+use Rattle.refusals.proofs.Rows.{clear, goes-on}
 use Rattle.words.specs.Words.{wordsAt, spanOf}
 use Rattle.mesh_file.specs.File.{countAt, endOf, cutAt, Standing, second, third, end, pointCount, cellCount, cellsIn}
 use Rattle.mesh_file.specs.Read.{sectionRows, fileRows}

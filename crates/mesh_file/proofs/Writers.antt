@@ -9,9 +9,11 @@ use borrow.Author.Tests.{lt-ltb, le-ltb, eqb-true, not-false}
 use lib.Dec.{ltb}
 use lib.ListN.{length, take, drop, replicate}
 use lib.Seq.{length-take-le}
-use Rattle.lists.specs.Ladder.{_when_, first, proper, rising, caused, lower, unless}
-use Rattle.lists.specs.Tables.{pointsOf, cellsOf, lengthRows, Determined}
-use Rattle.lists.proofs.Rows.{clear, exactly, number-rows, unless-none, unless-some}
+use Rattle.refusals.specs.Rows.{_when_, first, proper, rising, caused, lower, unless}
+use Rattle.mesh.specs.Mesh.{pointsOf, cellsOf}
+use Rattle.mesh.specs.Judged.{lengthRows}
+use Rattle.lists.specs.Tables.{Determined}
+use Rattle.refusals.proofs.Rows.{clear, exactly, number-rows, unless-none, unless-some}
 use Rattle.lists.proofs.Lent.{as-lent, as-new, determined}
 use Rattle.components.specs.Step.{meshRows}
 use Rattle.components.proofs.Steps.{fitting, asks}

@@ -6,7 +6,7 @@ use Prim.Native.Nat.{ℕ, _+_, _*_}
 use native.Mathlib.Omega.{arith}
 use lib.ListN.{length, replicate, length-append}
 use lib.Seq.{sets}
-use Rattle.lists.specs.Tables.{pointsOf, cellsOf}
+use Rattle.mesh.specs.Mesh.{pointsOf, cellsOf}
 use Rattle.lists.proofs.Parts.{sets-append, sets-whole}
 use Rattle.words.specs.Words.{bytes4, bytesOf}
 use Rattle.words.proofs.Words.{length-four, length-bytes}

@@ -6,7 +6,7 @@ use mathlib.Core.List.{List, [], _∷_, _++_}
 use Prim.Native.Nat.{ℕ, _+_, _*_, _/_, _≤_, _<_}
 use lib.Dec.{ltb}
 use lib.ListN.{length}
-use Rattle.lists.specs.Tables.{pointsOf, cellsOf}
+use Rattle.mesh.specs.Mesh.{pointsOf, cellsOf}
 use Rattle.words.specs.Words.{bytes4, bytesOf, wordAt, wordsAt}
 use Rattle.components.specs.Numbers.{componentNumbers}
 

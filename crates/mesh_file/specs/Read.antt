@@ -5,8 +5,9 @@ use mathlib.Core.List.{List, [], _∷_, _++_}
 use Prim.Native.Nat.{ℕ, _+_, _*_, _/_, _≤_, _<_}
 use lib.Dec.{eqb, ltb}
 use lib.ListN.{length, replicate}
-use Rattle.lists.specs.Ladder.{Row, _when_, first, unless}
-use Rattle.lists.specs.Tables.{most, allBelow, same, front, zeroed, on}
+use Rattle.refusals.specs.Rows.{Row, _when_, first, unless}
+use Rattle.mesh.specs.Mesh.{most}
+use Rattle.lists.specs.Tables.{allBelow, same, front, zeroed, on}
 use Rattle.components.specs.Numbers.{componentNumbers, Fits}
 use Rattle.mesh_file.specs.File.{countAt, endOf, cutAt, Standing, second, third, end, pointCount, cellCount, pointsIn, cellsIn, numbersIn}
 use Rattle.mesh_file.specs.declared.Loaded.{Loaded}

@@ -1,7 +1,7 @@
 -- `write_mesh` as document 01 has it: the writer whose file is `encode`.
 use mathlib.Core.List.{List}
 use Prim.Native.Nat.{ℕ, _+_, _*_}
-use Rattle.lists.specs.Tables.{pointsOf, cellsOf}
+use Rattle.mesh.specs.Mesh.{pointsOf, cellsOf}
 use Rattle.mesh_file.specs.File.{encode}
 use Rattle.mesh_file.specs.Writer.{Writes}
 use Rattle.mesh_file.specs.declared.Written.{Written}

@@ -6,8 +6,9 @@ use mathlib.Core.List.{List, [], _∷_}
 use Prim.Native.Nat.{ℕ, _*_, _%_}
 use lib.Dec.{eqb, ltb}
 use lib.ListN.{length, replicate}
-use Rattle.lists.specs.Ladder.{Row, _when_, first, unless}
-use Rattle.lists.specs.Tables.{most, pointsOf, cellsOf, allBelow, front, zeroed, on}
+use Rattle.refusals.specs.Rows.{Row, _when_, first, unless}
+use Rattle.mesh.specs.Mesh.{most, pointsOf, cellsOf}
+use Rattle.lists.specs.Tables.{allBelow, front, zeroed, on}
 use Rattle.components.specs.Numbers.{Fits}
 use Rattle.components.specs.Step.{meshRows}
 use Rattle.mesh_file.specs.declared.Written.{Written}

@@ -3,7 +3,7 @@ ghost use mathlib.Core.Path.{_≡_};
 ghost use Prim.Native.Nat.{ℕ, _+_, _*_, _/_, _≤_, _<_};
 ghost use lib.ListN.{length, replicate};
 ghost use lib.Seq.{sets};
-ghost use Rattle.lists.specs.Ladder.{first};
+ghost use Rattle.refusals.specs.Rows.{first};
 ghost use Rattle.words.specs.Words.{wordAt};
 ghost use Rattle.mesh_file.specs.File.{section, encode, countAt, endOf, cutAt, Standing};
 ghost use Rattle.mesh_file.specs.Writer.{Placed, Storable};
@@ -43,7 +43,7 @@ fn put_mesh(points: &[u32], cells: &[u32], file: &mut [u8], work: &mut [u32])
     put_section(points, points.len() / 3, file, 0);
     put_section(cells, cells.len() / 4, file, second);
     words::put_word(file, third, false, (cells.len() / 4) as u32);
-    file_numbers::put_numbers(cells, file, third + 4, false, work);
+    file_components::put_numbers(cells, file, third + 4, false, work);
 }
 
 // Writes the file of a mesh. Refused with 4, 5 or 8, and with 9 where `file` is shorter than the bytes needed, which it then carries:
@@ -161,7 +161,7 @@ fn numbers_match(file: &[u8], second: usize, work: &mut [u32]) -> bool
         lists::zero(work);
         return false;
     }
-    file_numbers::numbers_right(file, second + 4, third + 4, false, false, cells, work)
+    file_components::numbers_right(file, second + 4, third + 4, false, false, cells, work)
 }
 
 // Reads the mesh of a file. Refused with 11, 12, 4, 8, with 9 where a table has no room for the points and cells, which it then carries,

@@ -2,7 +2,8 @@
 ghost use mathlib.Core.Path.{_≡_};
 ghost use Prim.Native.Nat.{ℕ, _+_, _*_, _^_, _≤_, _<_};
 ghost use lib.ListN.{length};
-ghost use Rattle.octants.specs.Oct.{pos, counts, hit};
+ghost use Rattle.space.specs.Space.{pos};
+ghost use Rattle.octants.specs.Oct.{counts, hit};
 ghost use Rattle.octants.specs.Table.{depth, size, off, at, read};
 ghost use Rattle.octants.specs.Levels.{Dims};
 

@@ -7,9 +7,9 @@ use borrow.Author.Tests.{leb-true, leb-false, lt-ltb, le-ltb}
 use lib.Dec.{leb, ltb}
 use lib.Ieee.{Float}
 use lib.Ieee.Positive.{positive}
-use Rattle.lists.specs.Ladder.{first, caused, lower, rising}
+use Rattle.refusals.specs.Rows.{first, caused, lower, rising}
 use Rattle.lists.specs.Tables.{Determined}
-use Rattle.lists.proofs.Rows.{exactly}
+use Rattle.refusals.proofs.Rows.{exactly}
 use Rattle.lists.proofs.Lent.{determined}
 use Rattle.plan.specs.Plan.{mostLevels, mostOctants, scaleOf, originOf, dimsOf, fitsOn, fitsAll, axisOf, octantsOf, straightBox, onAxis, counted, axesOf, planOf, planRows, numberOf}
 use Rattle.plan.specs.declared.Bounds.{Bounds}

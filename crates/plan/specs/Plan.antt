@@ -9,7 +9,7 @@ use lib.Ieee.Scale.{finite}
 use lib.Ieee.Positive.{positive}
 use Rattle.float32.specs.Operations.{_+f_, _-f_, _*f_, _/f_, whole32, half32, two32}
 use Rattle.float32.specs.Ceiling.{ceilTo}
-use Rattle.lists.specs.Ladder.{Row, _when_}
+use Rattle.refusals.specs.Rows.{Row, _when_}
 use Rattle.plan.specs.declared.Bounds.{Bounds}
 use Rattle.plan.specs.declared.Scale.{Scale}
 use Rattle.plan.specs.declared.Axis.{Axis}

@@ -10,8 +10,10 @@ use lib.Dec.{eqb}
 use lib.ListN.{getD, length}
 use Rattle.lists.specs.Tables.{allAtMost}
 use Rattle.lists.proofs.Lent.{below-at}
-use Rattle.octants.specs.Oct.{Pos, pos, Tree, Inside, parent, raw, rawFrom}
-use Rattle.octants.specs.Table.{depth, size, off, place, at, bit, read}
+use Rattle.space.specs.Space.{Pos, pos, Inside}
+use Rattle.octants.specs.Oct.{Tree, parent, raw, rawFrom}
+use Rattle.lists.specs.Tests.{bit}
+use Rattle.octants.specs.Table.{depth, size, off, place, at, read}
 use Rattle.octants.proofs.TableLaws.{place-in, slot-place, slot-lt, off-suc, off-le, Room, slot-room}
 use Rattle.octants.specs.Levels.{Level, Dims, Found, twice}
 use Rattle.octants.proofs.Levels.{found-depth, found-level, found-room, twice-depth, half-in, parent-place, read-at}

@@ -7,9 +7,9 @@ use Prim.Native.Nat.{ℕ, _<_}
 use lib.Dec.{ltb}
 use lib.Ieee.{Float}
 use lib.ListN.{length, drop}
-use Rattle.lists.specs.Ladder.{_when_, first, proper, rising, caused, lower}
+use Rattle.refusals.specs.Rows.{_when_, first, proper, rising, caused, lower}
 use Rattle.lists.specs.Tables.{front, on, Determined}
-use Rattle.lists.proofs.Rows.{number-rows, goes-on, exactly}
+use Rattle.refusals.proofs.Rows.{number-rows, goes-on, exactly}
 use Rattle.lists.proofs.Lent.{as-new, determined}
 use Rattle.plan.specs.Plan.{planOf, planRows, onPlan}
 use Rattle.plan.specs.Plan as plan
@@ -18,7 +18,8 @@ use Rattle.plan.specs.declared.Bounds.{Bounds}
 use Rattle.plan.specs.declared.Plan.{Plan}
 use Rattle.plan.specs.declared.Planned.{Planned}
 use Rattle.plan.specs.declared.Planned.the-variants as planned
-use Rattle.octants.specs.Oct.{Pos, Tree, raw}
+use Rattle.space.specs.Space.{Pos}
+use Rattle.octants.specs.Oct.{Tree, raw}
 use Rattle.octants.specs.Table.{read, table, total}
 use Rattle.octants.proofs.TableLaws.{length-levels}
 use Rattle.octants.specs.Demand.{LeastRefinement}

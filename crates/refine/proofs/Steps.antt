@@ -8,9 +8,9 @@ use borrow.Author.Tests.{eqb-true, not-false, lt-ltb, le-ltb}
 use lib.Ieee.{Float}
 use lib.ListN.{length, take, drop}
 use lib.Seq.{length-take-le}
-use Rattle.lists.specs.Ladder.{first, proper}
+use Rattle.refusals.specs.Rows.{first, proper}
 use Rattle.lists.specs.Tables.{front, on}
-use Rattle.lists.proofs.Rows.{clear, unless-none, unless-some}
+use Rattle.refusals.proofs.Rows.{clear, unless-none, unless-some}
 use Rattle.lists.proofs.Lent.{as-lent, as-new}
 use Rattle.plan.specs.Plan.{octantsOf, planOf}
 use Rattle.plan.specs.Plan as plan
@@ -19,7 +19,7 @@ use Rattle.plan.specs.declared.Plan.{Plan}
 use Rattle.plan.specs.declared.Planned.{Planned}
 use Rattle.plan.specs.declared.Planned.the-variants as planned
 use Rattle.plan.proofs.Ready.{ReadyPlan, ready}
-use Rattle.octants.specs.Oct.{pos}
+use Rattle.space.specs.Space.{pos}
 use Rattle.octants.specs.Table.{off}
 use Rattle.refine.specs.Clear.{Refinable, TableDone}
 use Rattle.refine.specs.Step.{crossingRows, numberOf, rootsOf, splitOf, answerFor, refinedOf, splitFor, RefineDone}

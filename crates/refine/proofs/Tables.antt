@@ -5,7 +5,8 @@ use Prim.Native.Nat.{ℕ, zero, suc}
 use native.Mathlib.Omega.{arith}
 use lib.ListN.{length}
 use lib.Seq.{ext-getD}
-use Rattle.octants.specs.Oct.{Pos, pos, balanced, raw}
+use Rattle.space.specs.Space.{Pos, pos}
+use Rattle.octants.specs.Oct.{balanced, raw}
 use Rattle.octants.specs.Table.{off, read, levels, refineOf, total}
 use Rattle.balance.specs.Sweep.{Shows}
 use Rattle.balance.proofs.Passing.{shows-table}

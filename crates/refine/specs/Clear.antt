@@ -5,8 +5,10 @@ use mathlib.Core.List.{List}
 use Prim.Native.Nat.{ℕ, _+_, _≤_}
 use lib.ListN.{length}
 use Rattle.lists.specs.Tables.{allAtMost}
-use Rattle.octants.specs.Oct.{Pos, pos, parent}
-use Rattle.octants.specs.Table.{size, off, place, at, bit, refineOf, total}
+use Rattle.space.specs.Space.{Pos, pos}
+use Rattle.octants.specs.Oct.{parent}
+use Rattle.lists.specs.Tests.{bit}
+use Rattle.octants.specs.Table.{size, off, place, at, refineOf, total}
 use Rattle.octants.specs.Levels.{Level, Dims, twice}
 use Rattle.balance.specs.Shell.{one}
 

@@ -7,12 +7,12 @@ use Prim.Native.Nat.{ℕ}
 use lib.Dec.{eqb, ltb}
 use lib.Ieee.{Float}
 use lib.ListN.{length}
-use Rattle.lists.specs.Ladder.{Row, _when_, first, unless}
+use Rattle.refusals.specs.Rows.{Row, _when_, first, unless}
 use Rattle.lists.specs.Tables.{allAtMost, front, on}
 use Rattle.plan.specs.Plan.{planOf, planRows, onPlan}
 use Rattle.plan.specs.declared.Bounds.{Bounds}
 use Rattle.plan.specs.declared.Plan.{Plan}
-use Rattle.octants.specs.Oct.{Pos, pos}
+use Rattle.space.specs.Space.{Pos, pos}
 use Rattle.octants.specs.Table.{refineOf, total}
 use Rattle.refine.specs.declared.Refined.{Refined}
 use Rattle.refine.specs.declared.Refined.the-variants.{Done, Refused, Short}

@@ -9,7 +9,7 @@ use borrow.Author.Tests.{eq-eqb, ne-eqb, eqb-true}
 use lib.Dec.{eqb}
 use lib.ListN.{length, getD, set, length-append}
 use lib.Seq.{length-sets, sets}
-use Rattle.lists.specs.Tables.{cellsOf, most}
+use Rattle.mesh.specs.Mesh.{cellsOf, most}
 use Rattle.lists.specs.Runs.{run, those, Stored}
 use Rattle.lists.proofs.Cases.{eqOr}
 use Rattle.lists.proofs.Parts.{sets-whole}

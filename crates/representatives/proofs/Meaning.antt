@@ -10,9 +10,12 @@ use borrow.Author.Tests.{eqb-true, eq-eqb}
 use lib.Dec.{eqb, ltb}
 use lib.ListN.{length, getD}
 use Rattle.lists.specs.Counts.{Strict}
-use Rattle.lists.specs.Ladder.{_when_, first, proper, rising, caused, lower}
-use Rattle.lists.specs.Tables.{pointsOf, cellsOf, lengthRows, Determined}
-use Rattle.lists.proofs.Rows.{and-left, and-right, number-rows, exactly}
+use Rattle.refusals.specs.Rows.{_when_, first, proper, rising, caused, lower}
+use Rattle.mesh.specs.Mesh.{pointsOf, cellsOf}
+use Rattle.mesh.specs.Judged.{lengthRows}
+use Rattle.lists.specs.Tables.{Determined}
+use Rattle.lists.proofs.Bools.{and-left, and-right}
+use Rattle.refusals.proofs.Rows.{number-rows, exactly}
 use Rattle.lists.proofs.Lent.{determined}
 use Rattle.links.specs.Labels.{labelAt}
 use Rattle.links.specs.Walks.{Walk, Share}

@@ -9,9 +9,11 @@ use borrow.Author.Tests.{lt-ltb, le-ltb}
 use lib.Dec.{ltb}
 use lib.ListN.{length, getD, take, drop, replicate}
 use lib.Seq.{length-take-le}
-use Rattle.lists.specs.Ladder.{first, under, unless}
-use Rattle.lists.specs.Tables.{pointsOf, cellsOf, lengthRows, among, allFrom, on}
-use Rattle.lists.proofs.Rows.{unless-none, unless-some, first-under}
+use Rattle.refusals.specs.Rows.{first, under, unless}
+use Rattle.mesh.specs.Mesh.{pointsOf, cellsOf}
+use Rattle.mesh.specs.Judged.{lengthRows}
+use Rattle.lists.specs.Tables.{among, allFrom, on}
+use Rattle.refusals.proofs.Rows.{unless-none, unless-some, first-under}
 use Rattle.lists.proofs.Lent.{as-lent, as-lent-below, as-new}
 use Rattle.groups.specs.Judged.{sizeRows, crossedRows}
 use Rattle.groups.proofs.Judging.{Fitting, crossed-fit, sized-front}

@@ -4,10 +4,12 @@ use mathlib.Core.List.{List, [], _∷_, _++_, map}
 use Prim.Native.Nat.{ℕ}
 use lib.Ieee.{binary32, ofBits, toBits, add, div}
 use lib.ListN.{replicate}
-use Rattle.lists.specs.Ladder.{first, unless}
-use Rattle.lists.specs.Tables.{lengthRows, allBelow, among}
+use Rattle.refusals.specs.Rows.{first, unless}
+use Rattle.mesh.specs.Judged.{lengthRows}
+use Rattle.lists.specs.Tables.{allBelow, among}
 use Rattle.lists.specs.Runs.{run, those}
-use Rattle.links.specs.Labels.{any, shares, touched, takenOver, addCell, labels, labelAt}
+use Rattle.lists.specs.Tests.{any}
+use Rattle.links.specs.Labels.{shares, touched, takenOver, addCell, labels, labelAt}
 use Rattle.volume.specs.Cell.{pointOf, cornersOf}
 use Rattle.groups.specs.Judged.{sizeRows, crossedRows}
 use Rattle.representatives.specs.Highest.{isHighest, representativesOf, centroidBits, centroidsOf}

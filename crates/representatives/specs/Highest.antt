@@ -6,7 +6,7 @@ use Prim.Native.Nat.{ℕ, _+_, _*_, _/_, _≤_, _<_}
 use lib.Dec.{eqb, ltb}
 use lib.Ieee.{binary32, toBits}
 use lib.ListN.{length, getD}
-use Rattle.lists.specs.Tables.{cellsOf, most}
+use Rattle.mesh.specs.Mesh.{cellsOf, most}
 use Rattle.lists.specs.Runs.{run, those, Stored}
 use Rattle.links.specs.Labels.{labelAt}
 use Rattle.volume.specs.Cell.{CellIn, cornersOf}

@@ -6,8 +6,9 @@ use mathlib.Core.List.{List, [], _∷_, _++_}
 use Prim.Native.Nat.{ℕ, _+_, _*_, _/_, _%_, _<_}
 use lib.Dec.{eqb, ltb}
 use lib.ListN.{length, getD}
-use Rattle.lists.specs.Ladder.{Row, _when_, first, unless}
-use Rattle.lists.specs.Tables.{most, pointsOf, cellsOf, allBelow, allAtMost, front, zeroed, on}
+use Rattle.refusals.specs.Rows.{Row, _when_, first, unless}
+use Rattle.mesh.specs.Mesh.{most, pointsOf, cellsOf}
+use Rattle.lists.specs.Tables.{allBelow, allAtMost, front, zeroed, on}
 use Rattle.groups.specs.Judged.{crossedRows}
 use Rattle.groups.specs.Settled.{Sized, Labelled}
 use Rattle.representatives.specs.Highest.{representativesOf, centroidsOf}

@@ -6,10 +6,11 @@ use Prim.Native.Nat.{ℕ, zero, suc, _+_, _-_, _/_, _%_, _≤_, _<_}
 use native.Mathlib.Omega.{arith}
 use lib.Dec.{eqb, ltb}
 use borrow.Author.Tests.{eq-eqb, ne-eqb}
-use Rattle.octants.specs.Oct.{Axis, Pos, pos, hit}
+use Rattle.space.specs.Space.{Axis, Pos, pos}
+use Rattle.octants.specs.Oct.{hit}
 use Rattle.octants.specs.Table.{at}
-use Rattle.cells.specs.Cells.{reaches, stepped}
-use Rattle.cells.specs.Leaf.{turnAt, central}
+use Rattle.octree_cells.specs.Cells.{reaches, stepped}
+use Rattle.octree_cells.specs.Leaf.{turnAt, central}
 use Rattle.sides.specs.declared.Level.{Level}
 use Rattle.sides.specs.declared.Beside.{Beside}
 use Rattle.sides.specs.declared.Beside.the-variants.{Split, Equal, Given, Coarser, Border}

@@ -9,11 +9,13 @@ use native.Mathlib.Numerals.{add-one}
 use lib.Dec.{eqb}
 use lib.ListN.{length}
 use lib.Pow.{pow-pos, pow-mono}
-use Rattle.octants.specs.Oct.{Axis, ax, ay, az, Pos, pos, In}
-use Rattle.octants.specs.Table.{off, size, depth, read, bit}
+use Rattle.space.specs.Space.{Axis, ax, ay, az, Pos, pos}
+use Rattle.octants.specs.Oct.{In}
+use Rattle.lists.specs.Tests.{bit}
+use Rattle.octants.specs.Table.{off, size, depth, read}
 use Rattle.octants.specs.Levels.{Dims}
-use Rattle.cells.specs.Cells.{leafCells}
-use Rattle.cells.specs.Leaf.{IsLeaf}
+use Rattle.octree_cells.specs.Cells.{leafCells}
+use Rattle.octree_cells.specs.Leaf.{IsLeaf}
 use Rattle.sides.specs.declared.Level.{Level}
 use Rattle.sides.specs.declared.Sides.{Sides}
 use Rattle.sides.specs.declared.Beside.{Beside}

@@ -9,20 +9,24 @@ use native.Mathlib.Decide.{decLe}
 use lib.Dec.{eqb}
 use lib.ListN.{length, length-append}
 use borrow.Author.Tests.{eq-eqb, ne-eqb, le-ltb}
-use Rattle.octants.specs.Oct.{Axis, ax, ay, az, Pos, pos, Tree, counts, parent, In, Closed, within, Octree}
-use Rattle.octants.proofs.Near.{in-within, bool-cases, pos-eta, clash}
+use Rattle.space.specs.Space.{Axis, ax, ay, az, Pos, pos, next, frame}
+use Rattle.octants.specs.Oct.{Tree, counts, parent, In, Closed, within, Octree}
+use Rattle.lists.proofs.Bools.{bool-cases, clash}
+use Rattle.space.proofs.Space.{pos-eta}
+use Rattle.octants.proofs.Near.{in-within}
 use Rattle.octants.proofs.Least.{parent-inside}
-use Rattle.octants.specs.Table.{off, read, bit, size, depth}
+use Rattle.lists.specs.Tests.{bit}
+use Rattle.octants.specs.Table.{off, read, size, depth}
 use Rattle.octants.proofs.TableLaws.{off-le, off-suc}
-use Rattle.cells.specs.Cells.{next, frame, corner, middle, end, side, Side, split, equal, coarser, border, reaches, stepped, beside, face, Face, faceCentre, turnsTo, finer, cellsTo, faceCells, axisCells, leafCells}
-use Rattle.cells.specs.Leaf.{IsLeaf}
-use Rattle.cells.proofs.LeafSome.{whole-of}
-use Rattle.cells.proofs.Local.{splitAt, stepTo, edge-next, edge-last}
-use Rattle.cells.proofs.Sides.{beside-in, side-split}
-use Rattle.cells.specs.Leaf.{turnAt}
-use Rattle.cells.proofs.LocalSide.{localSide, side-local, turn-local, under-split}
-use Rattle.cells.proofs.Counting.{cells-length, edgesOf}
-use Rattle.cells.proofs.Vertices.{side-is-split}
+use Rattle.octree_cells.specs.Cells.{corner, middle, end, side, Side, split, equal, coarser, border, reaches, stepped, beside, face, Face, faceCentre, turnsTo, finer, cellsTo, faceCells, axisCells, leafCells}
+use Rattle.octree_cells.specs.Leaf.{IsLeaf}
+use Rattle.octree_cells.proofs.LeafSome.{whole-of}
+use Rattle.octree_cells.proofs.Local.{splitAt, stepTo, edge-next, edge-last}
+use Rattle.octree_cells.proofs.Sides.{beside-in, side-split}
+use Rattle.octree_cells.specs.Leaf.{turnAt}
+use Rattle.octree_cells.proofs.LocalSide.{localSide, side-local, turn-local, under-split}
+use Rattle.octree_cells.proofs.Counting.{cells-length, edgesOf}
+use Rattle.octree_cells.proofs.Vertices.{side-is-split}
 use Rattle.sides.specs.declared.Level.{Level}
 use Rattle.sides.specs.declared.Sides.{Sides}
 use Rattle.sides.specs.declared.Beside.{Beside}

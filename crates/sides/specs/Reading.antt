@@ -4,10 +4,12 @@ use mathlib.Core.Bool.{Bool, true, false, _||_}
 use mathlib.Core.List.{List}
 use Prim.Native.Nat.{ℕ, zero, suc, _+_, _-_, _/_, _≤_}
 use lib.ListN.{length}
-use Rattle.octants.specs.Oct.{Axis, ax, ay, az, Pos, pos, hit, counts}
-use Rattle.octants.specs.Table.{size, off, at, bit}
-use Rattle.cells.specs.Cells.{next, frame, reaches, stepped}
-use Rattle.cells.specs.Leaf.{turnAt}
+use Rattle.space.specs.Space.{Axis, ax, ay, az, Pos, pos, next, frame}
+use Rattle.octants.specs.Oct.{hit, counts}
+use Rattle.lists.specs.Tests.{bit}
+use Rattle.octants.specs.Table.{size, off, at}
+use Rattle.octree_cells.specs.Cells.{reaches, stepped}
+use Rattle.octree_cells.specs.Leaf.{turnAt}
 use Rattle.sides.specs.declared.Level.{Level}
 use Rattle.sides.specs.declared.Beside.{Beside}
 use Rattle.sides.specs.declared.Beside.the-variants.{Split, Equal, Given, Coarser, Border}

@@ -4,10 +4,11 @@ use mathlib.Core.Bool.{Bool, true, false, not}
 use mathlib.Core.List.{List}
 use Prim.Native.Nat.{ℕ, _≤_}
 use lib.ListN.{length}
-use Rattle.octants.specs.Oct.{Axis, ax, ay, az, Pos, pos, Tree, Closed}
+use Rattle.space.specs.Space.{Axis, ax, ay, az, Pos, pos}
+use Rattle.octants.specs.Oct.{Tree, Closed}
 use Rattle.octants.specs.Table.{off, read}
 use Rattle.octants.specs.Levels.{Dims}
-use Rattle.cells.specs.Cells.{Face, face, faceCentre, middle, turnsTo, finer, Side, split, equal, coarser, border, side}
+use Rattle.octree_cells.specs.Cells.{Face, face, faceCentre, middle, turnsTo, finer, Side, split, equal, coarser, border, side}
 use Rattle.sides.specs.declared.Beside.{Beside}
 use Rattle.sides.specs.declared.Beside.the-variants.{Split, Equal, Given, Coarser, Border}
 use Rattle.sides.specs.declared.Sides.{Sides}

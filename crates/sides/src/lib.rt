@@ -6,12 +6,13 @@ ghost use mathlib.Core.Path.{_≡_};
 ghost use mathlib.Core.Bool.{Bool};
 ghost use Prim.Native.Nat.{ℕ, _-_, _^_, _≤_, _<_};
 ghost use lib.ListN.{length};
-ghost use Rattle.octants.specs.Oct.{pos};
-ghost use Rattle.octants.specs.Table.{read, bit};
+ghost use Rattle.space.specs.Space.{pos};
+ghost use Rattle.lists.specs.Tests.{bit};
+ghost use Rattle.octants.specs.Table.{read};
 ghost use Rattle.octants.specs.Levels.{Dims};
-ghost use Rattle.cells.specs.Cells.{reaches, stepped, leafCells};
-ghost use Rattle.cells.specs.Leaf.{turnAt};
-ghost use Rattle.cells.specs.Leaf.{IsLeaf};
+ghost use Rattle.octree_cells.specs.Cells.{reaches, stepped, leafCells};
+ghost use Rattle.octree_cells.specs.Leaf.{turnAt};
+ghost use Rattle.octree_cells.specs.Leaf.{IsLeaf};
 ghost use Rattle.sides.specs.Reading.{Held, axisOf, splitIn, eitherIn, equalIn, besideIn, sidesIn, levelOf, givenAt};
 ghost use Rattle.sides.specs.Told.{sidesAt, Taken};
 

@@ -23,7 +23,7 @@ fn print_number(n: u64) {
 // Writes the file of a mesh; answers its bytes, or 0 where it is refused.
 fn write(points: &[u32], cells: &[u32], file: &mut [u8]) -> u64 {
     let mut work = [7u32; 10];
-    match vtk_file::write_vtk(points, cells, file, &mut work) {
+    match vtk_writer::write_vtk(points, cells, file, &mut work) {
         Written::Done(bytes) => bytes,
         Written::Refused(_) => 0,
         Written::Short(_) => 0,

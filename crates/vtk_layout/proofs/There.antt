@@ -10,7 +10,7 @@ use borrow.Author.Tests.{le-ltb, leb-true, eqb-false, not-true}
 use lib.Dec.{eqb, leb}
 use lib.ListN.{length, getD, take, drop, length-append, length-drop}
 use lib.Seq.{take-at}
-use Rattle.lists.proofs.Rows.{and-left, and-right}
+use Rattle.lists.proofs.Bools.{and-left, and-right}
 use Rattle.decimal.specs.Text.{textAt}
 use Rattle.decimal.specs.Digits.{digits, isDigit}
 use Rattle.decimal.specs.declared.Place.{Place}

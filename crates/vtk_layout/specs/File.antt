@@ -4,7 +4,8 @@ use mathlib.Core.List.{List}
 use Prim.Native.Nat.{ℕ, _+_, _-_, _*_, _/_, _%_}
 use lib.Dec.{eqb}
 use lib.ListN.{getD, replicate}
-use Rattle.lists.specs.Tables.{pointsOf, cellsOf, listOf}
+use Rattle.mesh.specs.Mesh.{pointsOf, cellsOf}
+use Rattle.lists.specs.Tables.{listOf}
 use Rattle.words.specs.Words.{bytesOf}
 use Rattle.components.specs.Numbers.{componentNumbers}
 use Rattle.vtk_layout.specs.Layout.{written}

@@ -9,9 +9,11 @@ use borrow.Author.Tests.{le-ltb, eq-eqb, ne-eqb, eqb-false, not-true}
 use lib.Dec.{eqb, ltb, leb}
 use lib.ListN.{length, getD, take, drop, replicate, length-append, length-replicate, getD-replicate, take-append-drop}
 use lib.Seq.{drop-drop, drop-append-seam, length-take-le, take-at}
-use Rattle.lists.specs.Ladder.{Row, _when_, first}
-use Rattle.lists.specs.Tables.{most, pointsOf, cellsOf, allBelow, listOf, same, front, zeroed, among, Determined}
-use Rattle.lists.proofs.Rows.{and-left, and-right, number-rows, unless-none, unless-some}
+use Rattle.refusals.specs.Rows.{Row, _when_, first}
+use Rattle.mesh.specs.Mesh.{most, pointsOf, cellsOf}
+use Rattle.lists.specs.Tables.{allBelow, listOf, same, front, zeroed, among, Determined}
+use Rattle.lists.proofs.Bools.{and-left, and-right}
+use Rattle.refusals.proofs.Rows.{number-rows, unless-none, unless-some}
 use Rattle.lists.proofs.Cases.{eqOr}
 use Rattle.lists.proofs.Lent.{below-at, all-below, as-lent, as-new, determined}
 use Rattle.lists.proofs.Listing.{length-list, list-at, list-is, list-same, same-eq, same-refl}
@@ -19,7 +21,7 @@ use Rattle.words.specs.Words.{bytesOf, wordAt, placeOf, wordsAt}
 use Rattle.words.proofs.Words.{length-bytes, length-words, words-at, words-small, words-bytes, words-there}
 use Rattle.components.specs.Numbers.{componentNumbers}
 use Rattle.components.proofs.Patterns.{length-components}
-use Rattle.file_numbers.proofs.Comparing.{cells-in}
+use Rattle.file_components.proofs.Comparing.{cells-in}
 use Rattle.mesh_file.specs.Read.{shortOf, loadedNumber}
 use Rattle.mesh_file.specs.declared.Loaded.{Loaded}
 use Rattle.mesh_file.specs.declared.Loaded.the-variants as loaded

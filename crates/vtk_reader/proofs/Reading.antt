@@ -10,18 +10,18 @@ use borrow.Author.Tests.{lt-ltb, le-ltb, ne-eqb, ltb-false, not-false}
 use lib.Dec.{ltb}
 use lib.ListN.{length, getD, set, take, drop, replicate}
 use lib.Seq.{length-take-le}
-use Rattle.lists.specs.Ladder.{first, proper}
-use Rattle.lists.specs.Tables.{most, cellsOf, allBelow, same, allFrom, on, among}
-use Rattle.lists.proofs.Rows.{clear, unless-none, unless-some}
+use Rattle.refusals.specs.Rows.{first, proper}
+use Rattle.mesh.specs.Mesh.{most, cellsOf, Cells}
+use Rattle.lists.specs.Tables.{allBelow, same, allFrom, on, among}
+use Rattle.refusals.proofs.Rows.{clear, unless-none, unless-some}
 use Rattle.lists.proofs.Lent.{below-at, below-end, as-lent, as-new, as-lent-below}
 use Rattle.lists.proofs.Listing.{length-list, list-at, each-on, each-off, each-end}
 use Rattle.lists.proofs.Tests.{falls, stays}
 use Rattle.words.specs.Words.{wordAt, placeOf, wordsAt, spanOf}
 use Rattle.words.proofs.Words.{length-words, cell-below, Reading, reading-on}
-use Rattle.links.specs.Vertices.{Cells}
 use Rattle.components.specs.Numbers.{Fits}
-use Rattle.file_numbers.specs.Stored.{Told}
-use Rattle.file_numbers.proofs.Comparing.{cells-in}
+use Rattle.file_components.specs.Stored.{Told}
+use Rattle.file_components.proofs.Comparing.{cells-in}
 use Rattle.mesh_file.specs.Read.{shortOf}
 use Rattle.mesh_file.proofs.Reading.{Roomy, roomy}
 use Rattle.mesh_file.specs.declared.Loaded.{Loaded}

@@ -7,8 +7,10 @@ use native.Mathlib.Omega.{arith}
 use borrow.Author.Tests.{le-ltb, eq-eqb}
 use lib.ListN.{length, take}
 use lib.Seq.{take-at}
-use Rattle.lists.specs.Ladder.{first}
-use Rattle.lists.specs.Tables.{most, pointsOf, cellsOf, lengthRows, allBelow, front, zeroed}
+use Rattle.refusals.specs.Rows.{first}
+use Rattle.mesh.specs.Mesh.{most, pointsOf, cellsOf}
+use Rattle.mesh.specs.Judged.{lengthRows}
+use Rattle.lists.specs.Tables.{allBelow, front, zeroed}
 use Rattle.lists.proofs.Lent.{as-new}
 use Rattle.components.specs.Step.{meshRows}
 use Rattle.mesh_file.specs.Writer.{writtenNumber, writtenOf}
@@ -20,8 +22,8 @@ use Rattle.mesh_file.proofs.Writers.{answers, done-bytes}
 use Rattle.mesh_file.proofs.Meaning.{Room, taken}
 use Rattle.vtk_layout.specs.Layout.{ourTitle, noFeed, isTitle, locatedOf}
 use Rattle.vtk_layout.specs.File.{vtkFile}
-use Rattle.vtk_file.specs.Write.{vtkBytes, WriteDone}
-use Rattle.vtk_file.proofs.Writing.{length-file}
+use Rattle.vtk_writer.specs.Write.{vtkBytes, WriteDone}
+use Rattle.vtk_writer.proofs.Writing.{length-file}
 use Rattle.vtk_reader.specs.Read.{LoadDone}
 use Rattle.vtk_reader.proofs.Meaning.{ReadsAs, read-is-written, written-reads, written-points, written-cells, written-work}
 

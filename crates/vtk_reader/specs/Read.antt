@@ -6,8 +6,9 @@ use mathlib.Core.List.{List, [], _∷_}
 use Prim.Native.Nat.{ℕ, _+_, _*_, _/_}
 use lib.Dec.{ltb}
 use lib.ListN.{length, set, replicate}
-use Rattle.lists.specs.Ladder.{Row, _when_, first, unless}
-use Rattle.lists.specs.Tables.{most, allBelow, listOf, same, front, zeroed, on}
+use Rattle.refusals.specs.Rows.{Row, _when_, first, unless}
+use Rattle.mesh.specs.Mesh.{most}
+use Rattle.lists.specs.Tables.{allBelow, listOf, same, front, zeroed, on}
 use Rattle.words.specs.Words.{wordAt, wordsAt}
 use Rattle.components.specs.Numbers.{componentNumbers}
 use Rattle.mesh_file.specs.Read.{shortOf, loadedNumber}

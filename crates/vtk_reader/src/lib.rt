@@ -4,7 +4,7 @@ use vtk_layout::Located;
 ghost use mathlib.Core.Path.{_≡_};
 ghost use Prim.Native.Nat.{_+_, _*_, _≤_, min};
 ghost use lib.ListN.{length};
-ghost use Rattle.lists.specs.Ladder.{first};
+ghost use Rattle.refusals.specs.Rows.{first};
 ghost use Rattle.vtk_layout.specs.declared.Located.the-variants as located;
 ghost use Rattle.vtk_layout.specs.Layout.{Laid, locatedOf};
 ghost use Rattle.vtk_reader.specs.Read.{cellsIn, cellGot, cellRows, bodyRows, LoadDone};
@@ -110,7 +110,7 @@ fn load(
         return Loaded::Short(p as u64, n as u64);
     }
     let need = 2 * p;
-    if !file_numbers::numbers_right(file, c, d, true, true, n, &mut work[..need]) {
+    if !file_components::numbers_right(file, c, d, true, true, n, &mut work[..need]) {
         return Loaded::Refused(13);
     }
     let numbers = 3 * p;

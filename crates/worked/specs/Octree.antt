@@ -7,14 +7,16 @@ use Prim.Native.Nat.{ℕ, zero, suc, _+_, _-_}
 use native.Mathlib.Omega.{arith}
 use lib.Dec.{eqb}
 use lib.ListN.{length, replicate, length-map}
-use Rattle.octants.specs.Oct.{Axis, ax, ay, az, Pos, pos, Tree, any, Closed}
-use Rattle.octants.proofs.Near.{clash}
+use Rattle.space.specs.Space.{Axis, ax, ay, az, Pos, pos}
+use Rattle.lists.specs.Tests.{any}
+use Rattle.octants.specs.Oct.{Tree, Closed}
+use Rattle.lists.proofs.Bools.{clash}
 use Rattle.octants.specs.Table.{off, slot, depth, read}
-use Rattle.cells.specs.Cells.{cells, leafCells, boxDown, down, below, descent, side, finer, over, fan, halves, cellsTo, flat}
+use Rattle.octree_cells.specs.Cells.{cells, leafCells, boxDown, down, below, descent, side, finer, over, fan, halves, cellsTo, flat}
 use Rattle.lists.proofs.Lent.{zeros-at}
-use Rattle.numbering.specs.Keys.{keyOf, tripleOf}
-use Rattle.numbering.specs.Distinct.{insert, distinctSorted}
-use Rattle.numbering.proofs.Members.{same-distinct}
+use Rattle.vertex_keys.specs.Keys.{keyOf, tripleOf}
+use Rattle.vertex_keys.specs.Distinct.{insert, distinctSorted}
+use Rattle.vertex_keys.proofs.Members.{same-distinct}
 use Rattle.sides.specs.Told.{Taken}
 use Rattle.leaf_cells.specs.Listed.{keysOf, leafKeys}
 use Rattle.leaf_cells.proofs.Leafwise.{same-vertices}

@@ -9,8 +9,10 @@ use native.Mathlib.Nat.{zero-div, zero-mod, div-one, div-div-eq-div-mul, pow-suc
 use lib.Dec.{eqb, ltb}
 use lib.ListN.{getD, replicate, set}
 use borrow.Author.Tests.{ltb-true}
-use Rattle.octants.specs.Oct.{Pos, pos, Tree, balanced, near, any, rawFrom, refined}
-use Rattle.octants.proofs.Near.{and-both}
+use Rattle.space.specs.Space.{Pos, pos}
+use Rattle.lists.specs.Tests.{any}
+use Rattle.octants.specs.Oct.{Tree, balanced, near, rawFrom, refined}
+use Rattle.lists.proofs.Bools.{and-both}
 use Rattle.octants.specs.Table.{off, slot, depth, read, total, refineOf, tab, levels, table}
 
 unfoldable areBits : List ℕ → Bool

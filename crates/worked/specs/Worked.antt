@@ -8,23 +8,24 @@ use lib.Ieee.{Float, add, sub, mul, div, neg, lt, ofInt, ofBits}
 use Rattle.float32.specs.Operations.{f32}
 use Rattle.float32.specs.Ceiling.{ceilTo}
 use Rattle.plan.specs.Plan.{allFinite, scaleOf, dimsOf, fitsOn, axisOf, octantsOf, straight, straightBox, counted, axesOf, planOf}
-use Rattle.octants.specs.Oct.{Pos, pos}
+use Rattle.space.specs.Space.{Pos, pos}
 use Rattle.grid.specs.Grid.{gridCells, gridVertices}
 use Rattle.plan.specs.declared.Bounds.{Bounds}
 use Rattle.plan.specs.declared.Planned.{Planned}
 use Rattle.plan.specs.declared.Planned.the-variants.{Ready, Refused}
 use Rattle.octants.specs.Table.{refineOf}
-use Rattle.lists.specs.Tables.{cellsOf}
+use Rattle.mesh.specs.Mesh.{cellsOf}
 use Rattle.lists.specs.Runs.{run, those}
 use Rattle.lists.specs.Appearance.{place, noted, seenOf, numbersOf}
-use Rattle.links.specs.Labels.{any, shares, touched, takenOver, addCell, labels, labelAt}
+use Rattle.lists.specs.Tests.{any}
+use Rattle.links.specs.Labels.{shares, touched, takenOver, addCell, labels, labelAt}
 use Rattle.components.specs.Numbers.{componentNumbers}
 use Rattle.representatives.specs.Highest.{isHighest, representativesOf}
 use Rattle.volume.specs.Cell.{pointOf, cornersOf}
 use Rattle.volume.specs.Volume.{volumeOf, sizeOf, verdictOf, verdictAt, leastOf}
-use Rattle.compact.specs.Weighed.{shaped, shapeAt, finalCells}
-use Rattle.compact.specs.Used.{firstUses, usedOf, renumbered}
-use Rattle.cells.specs.Cells.{flat}
+use Rattle.marked.specs.Weighed.{shaped, shapeAt, finalCells}
+use Rattle.marked.specs.Used.{firstUses, usedOf, renumbered}
+use Rattle.octree_cells.specs.Cells.{flat}
 use Rattle.lattice.specs.Lattice.{boxUp, latticeVertices, indexOf, inRange, complete, octahedron, axisCells, centreCells, latticeCells, latticeTable}
 use Rattle.worked.specs.Octree.{unsplit, octree-six}
 use Rattle.worked.specs.Refinement.{Splits, rootAndChild, childAlone, root-and-child, child-alone}

@@ -3,7 +3,8 @@ use mathlib.Core.Path.{_≡_, refl, _∙_}
 use Prim.Native.Nat.{suc, _-_, _<_}
 use native.Mathlib.Omega.{arith}
 use lib.ListN.{length}
-use Rattle.octants.specs.Oct.{pos, balanced, Tree}
+use Rattle.space.specs.Space.{pos}
+use Rattle.octants.specs.Oct.{balanced, Tree}
 use Rattle.octants.proofs.TableLaws.{off-le}
 use Rattle.balance.specs.Sweep.{Shows}
 use Rattle.balance.proofs.Passing.{balance-start, balance-turn, shows-all}

@@ -2,7 +2,7 @@
 use mathlib.Core.Path.{_≡_, refl}
 use Prim.Native.Nat.{_*_, _-_, _≤_}
 use native.Mathlib.Omega.{arith}
-use Rattle.octants.specs.Oct.{pos}
+use Rattle.space.specs.Space.{pos}
 use Rattle.balance.specs.Sweep.{Swept, balancedByte}
 use Rattle.balance.proofs.Sweeping.{swept-zero, swept-at, level-more, level-mul, rows-all, pass-again}
 use Rattle.balance.proofs.balance_level.Statement.{statement}

@@ -3,8 +3,9 @@ use mathlib.Core.Path.{_≡_, refl, sym, _∙_}
 use mathlib.Core.Bool.{false}
 use Prim.Native.Nat.{suc, _-_, _≤_}
 use native.Mathlib.Omega.{arith}
-use Rattle.octants.specs.Oct.{pos, any}
-use Rattle.octants.proofs.Near.{any-more}
+use Rattle.space.specs.Space.{pos}
+use Rattle.lists.specs.Tests.{any}
+use Rattle.lists.proofs.Any.{any-more}
 use Rattle.octants.specs.Table.{depth, size}
 use Rattle.octants.proofs.TableLaws.{off-le}
 use Rattle.octants.specs.Judge.{unsteady}

@@ -3,8 +3,9 @@ use mathlib.Core.Path.{_≡_, refl, sym, _∙_}
 use mathlib.Core.Bool.{false}
 use Prim.Native.Nat.{_+_, _*_, _-_, _≤_}
 use native.Mathlib.Omega.{arith}
-use Rattle.octants.specs.Oct.{pos, any}
-use Rattle.octants.proofs.Near.{any-more, any-found, any-none}
+use Rattle.space.specs.Space.{pos}
+use Rattle.lists.specs.Tests.{any}
+use Rattle.lists.proofs.Any.{any-more, any-found, any-none}
 use Rattle.balance.specs.Sweep.{gives}
 use Rattle.balance.proofs.Sweeping.{level-mul}
 use Rattle.balance.proofs.Steadiness.{level-unsteady}

@@ -4,8 +4,8 @@ use mathlib.Core.Bool.{Bool, not, _&&_, false}
 use Prim.Native.Nat.{_+_, _-_, _≤_}
 use native.Mathlib.Omega.{arith}
 use borrow.Author.Needs.{needs}
-use Rattle.octants.specs.Oct.{any}
-use Rattle.octants.proofs.Near.{any-more, any-found, any-none}
+use Rattle.lists.specs.Tests.{any}
+use Rattle.lists.proofs.Any.{any-more, any-found, any-none}
 use Rattle.balance.specs.Shell.{one, touched}
 use Rattle.balance.proofs.row_gives.Statement.{statement}
 use Rattle.balance.proofs.row_gives.Tie as tie

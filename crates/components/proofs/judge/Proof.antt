@@ -2,8 +2,9 @@
 use mathlib.Core.Path.{_≡_, refl, sym, ap, _∙_}
 use native.Mathlib.Omega.{arith}
 use borrow.Author.Tests.{lt-ltb, le-ltb}
-use Rattle.lists.specs.Ladder.{first}
-use Rattle.lists.proofs.Rows.{stops, goes-on, lengths-proper, few-points}
+use Rattle.refusals.specs.Rows.{first}
+use Rattle.mesh.proofs.Sizes.{lengths-proper, few-points}
+use Rattle.refusals.proofs.Rows.{stops, goes-on}
 use Rattle.lists.proofs.Tests.{failed, passed}
 use Rattle.components.specs.Step.{meshRows}
 use borrow.Author.Needs.{needs}
@@ -12,7 +13,7 @@ use Rattle.components.proofs.judge.Tie as tie
 use Rattle.components.proofs.judge.Reads as reads
 use Rattle.components.proofs.judge.Lts as lts
 use Rattle.lists.proofs.all_below.Reads as all-below-reads
-use Rattle.lists.proofs.judge_lengths.Reads as judge-lengths-reads
+use Rattle.mesh.proofs.judge_lengths.Reads as judge-lengths-reads
 
 judge-lengths-requires : tie.Need-judge-lengths-requires
 judge-lengths-requires c κs = search needs

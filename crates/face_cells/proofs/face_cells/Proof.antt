@@ -9,8 +9,8 @@ use Rattle.face_cells.proofs.face_cells.Lts as lts
 use Rattle.face_cells.proofs.fan.Reads as fan-reads
 use Rattle.face_cells.proofs.halves.Reads as halves-reads
 use Rattle.face_cells.proofs.turned.Reads as turned-reads
-use Rattle.numbering.proofs.find.Reads as find-reads
-use Rattle.numbering.proofs.near.Reads as near-reads
+use Rattle.vertex_keys.proofs.find.Reads as find-reads
+use Rattle.vertex_keys.proofs.near.Reads as near-reads
 
 enum-told : tie.Need-enum-told
 enum-told c = search needs

@@ -4,9 +4,10 @@ use mathlib.Core.List.{List}
 use Prim.Native.Nat.{ℕ}
 use native.Mathlib.Omega.{arith}
 use borrow.Author.Tests.{eq-eqb, ne-eqb}
-use Rattle.lists.specs.Ladder.{first}
+use Rattle.refusals.specs.Rows.{first}
 use Rattle.lists.proofs.Tests.{failed, passed}
-use Rattle.octants.specs.Oct.{Pos, any}
+use Rattle.space.specs.Space.{Pos}
+use Rattle.lists.specs.Tests.{any}
 use Rattle.octants.specs.Judge.{isGraded}
 use Rattle.lattice.specs.Storing.{dimsOf}
 use Rattle.grid.specs.Step.{splitRows}

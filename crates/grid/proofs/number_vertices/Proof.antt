@@ -11,8 +11,8 @@ use Rattle.grid.proofs.number_vertices.Reads as reads
 use Rattle.grid.proofs.number_vertices.Lts as lts
 use Rattle.leaf_cells.proofs.leaf_keys.Reads as leaf-keys-reads
 use Rattle.leaves.proofs.list_leaves.Reads as list-leaves-reads
-use Rattle.numbering.proofs.index.Reads as index-reads
-use Rattle.numbering.proofs.number.Reads as number-reads
+use Rattle.vertex_keys.proofs.index.Reads as index-reads
+use Rattle.vertex_keys.proofs.number.Reads as number-reads
 
 mul-keys : tie.Need-mul-keys
 mul-keys c = search needs

@@ -3,7 +3,7 @@ use Prim.Native.Nat.{ℕ, _*_, _/_}
 use native.Mathlib.Omega.{arith}
 use lib.ListN.{length}
 use lib.Seq.{length-take-le}
-use Rattle.numbering.proofs.Indexing.{short}
+use Rattle.vertex_keys.proofs.Indexing.{short}
 use Rattle.grid.specs.Step.{cellCount}
 use Rattle.grid.proofs.Outcomes.{vertices-room, lent-full, length-triples, length-points}
 use Rattle.grid.proofs.Octrees.{octree-vertex-count, octree-cell-count, octree-table, octree-triples, octree-points}

@@ -1,7 +1,7 @@
 use mathlib.Core.Path.{sym, _∙_}
 use native.Mathlib.Omega.{arith}
-use Rattle.lists.specs.Ladder.{first}
-use Rattle.lists.proofs.Rows.{stops, goes-on}
+use Rattle.refusals.specs.Rows.{first}
+use Rattle.refusals.proofs.Rows.{stops, goes-on}
 use Rattle.lists.proofs.Tests.{failed, passed}
 use Rattle.groups.specs.Judged.{crossedRows}
 use Rattle.groups.proofs.Judging.{sizes-proper, sizes-few}

@@ -1,13 +1,14 @@
 use borrow.Author.Tests.{lt-ltb, le-ltb, eq-eqb, ne-eqb}
-use Rattle.lists.specs.Ladder.{first}
-use Rattle.lists.proofs.Rows.{stops, goes-on, lengths-proper}
+use Rattle.refusals.specs.Rows.{first}
+use Rattle.mesh.proofs.Sizes.{lengths-proper}
+use Rattle.refusals.proofs.Rows.{stops, goes-on}
 use Rattle.groups.specs.Judged.{sizeRows}
 use borrow.Author.Needs.{needs}
 use Rattle.groups.proofs.judge_sizes.Statement.{statement}
 use Rattle.groups.proofs.judge_sizes.Tie as tie
 use Rattle.groups.proofs.judge_sizes.Reads as reads
 use Rattle.groups.proofs.judge_sizes.Lts as lts
-use Rattle.lists.proofs.judge_lengths.Reads as judge-lengths-reads
+use Rattle.mesh.proofs.judge_lengths.Reads as judge-lengths-reads
 
 judge-lengths-requires : tie.Need-judge-lengths-requires
 judge-lengths-requires c κs = search needs

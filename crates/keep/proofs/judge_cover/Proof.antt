@@ -3,8 +3,8 @@ use mathlib.Core.List.{[], _∷_}
 use mathlib.Core.Path.{_≡_, refl, sym, ap, _∙_}
 use native.Mathlib.Omega.{arith}
 use borrow.Author.Tests.{eq-eqb, ne-eqb}
-use Rattle.lists.specs.Ladder.{first}
-use Rattle.lists.proofs.Rows.{stops, goes-on}
+use Rattle.refusals.specs.Rows.{first}
+use Rattle.refusals.proofs.Rows.{stops, goes-on}
 use Rattle.lists.proofs.Tests.{failed, passed}
 use Rattle.groups.specs.Judged.{sizeRows}
 use Rattle.groups.proofs.Judging.{sizes-proper, sizes-few}

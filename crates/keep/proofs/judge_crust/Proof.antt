@@ -1,6 +1,6 @@
 -- `keep::judge_crust` meets its contract. Assumes nothing.
 use borrow.Author.Needs.{needs}
-use Rattle.lists.specs.Ladder.{first}
+use Rattle.refusals.specs.Rows.{first}
 use Rattle.lists.proofs.Tests.{failed, passed}
 use Rattle.keep.specs.Step.{crustRows}
 use Rattle.keep.proofs.judge_crust.Statement.{statement}

@@ -1,12 +1,12 @@
 -- `keep::keep_crossed` meets its contract. Assumes nothing.
 use mathlib.Core.Path.{_≡_, refl, sym, ap, _∙_}
-use Rattle.compact.proofs.Keeping.{kept-same}
+use Rattle.marked.proofs.Keeping.{kept-same}
 use borrow.Author.Needs.{needs}
 use Rattle.keep.proofs.keep_crossed.Statement.{statement}
 use Rattle.keep.proofs.keep_crossed.Tie as tie
 use Rattle.keep.proofs.keep_crossed.Reads as reads
 use Rattle.keep.proofs.keep_crossed.Lts as lts
-use Rattle.compact.proofs.keep_marked.Reads as keep-marked-reads
+use Rattle.marked.proofs.keep_marked.Reads as keep-marked-reads
 use Rattle.keep.proofs.mark_crust.Reads as mark-crust-reads
 
 mark-crust-requires : tie.Need-mark-crust-requires

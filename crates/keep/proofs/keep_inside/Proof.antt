@@ -1,12 +1,12 @@
 -- `keep::keep_inside` meets its contract. Assumes nothing.
 use mathlib.Core.Path.{_≡_, refl, sym, ap, _∙_}
-use Rattle.compact.proofs.Keeping.{kept-same}
+use Rattle.marked.proofs.Keeping.{kept-same}
 use borrow.Author.Needs.{needs}
 use Rattle.keep.proofs.keep_inside.Statement.{statement}
 use Rattle.keep.proofs.keep_inside.Tie as tie
 use Rattle.keep.proofs.keep_inside.Reads as reads
 use Rattle.keep.proofs.keep_inside.Lts as lts
-use Rattle.compact.proofs.keep_marked.Reads as keep-marked-reads
+use Rattle.marked.proofs.keep_marked.Reads as keep-marked-reads
 use Rattle.groups.proofs.settle.Reads as settle-reads
 use Rattle.keep.proofs.mark_cover.Reads as mark-cover-reads
 

@@ -1,6 +1,6 @@
 use mathlib.Core.Path.{_≡_}
 use native.Mathlib.Omega.{arith}
-use Rattle.octants.specs.Oct.{pos}
+use Rattle.space.specs.Space.{pos}
 use Rattle.lattice.proofs.Formulas.{cells-count, vertices-count}
 use borrow.Author.Needs.{needs}
 use Rattle.lattice.proofs.count.Statement.{statement}

@@ -2,7 +2,7 @@ use Prim.Native.Nat.{_+_, _-_, _/_, _≤_}
 use native.Mathlib.Omega.{arith}
 use Rattle.lists.specs.Runs.{run, Storing}
 use Rattle.lists.proofs.Running.{loop-start, loop-next, loop-room, loop-done, storing-length}
-use Rattle.octants.specs.Oct.{pos}
+use Rattle.space.specs.Space.{pos}
 use Rattle.lattice.specs.Storing.{rowCells, layerCells}
 use Rattle.lattice.proofs.layer_at.Statement.{statement}
 use Rattle.lattice.proofs.layer_at.Tie as tie

@@ -4,7 +4,7 @@ use native.Mathlib.Omega.{arith}
 use lib.Seq.{sets}
 use Rattle.lists.specs.Runs.{run, Storing}
 use Rattle.lists.proofs.Running.{loop-start, loop-next, loop-room, loop-done, storing-length}
-use Rattle.octants.specs.Oct.{pos}
+use Rattle.space.specs.Space.{pos}
 use Rattle.lattice.specs.Storing.{layerCells, allCells}
 use Rattle.lattice.proofs.Tables.{all-cells}
 use Rattle.lattice.proofs.store_cells.Statement.{statement}

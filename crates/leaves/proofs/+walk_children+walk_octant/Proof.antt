@@ -4,9 +4,9 @@ use denote.Ref.{now}
 use mathlib.Core.Path.{_≡_, sym, _∙_}
 use native.Mathlib.Omega.{arith}
 use Prim.Native.Nat.{ℕ, _<_, _+_, _*_, _-_}
-use Rattle.octants.specs.Oct.{pos}
+use Rattle.space.specs.Space.{pos}
 use Rattle.octants.specs.Table.{read}
-use Rattle.cells.specs.Cells.{leafCells}
+use Rattle.octree_cells.specs.Cells.{leafCells}
 use Rattle.sides.proofs.Levels.{in-small}
 use Rattle.leaves.specs.Leaves.{alone}
 use Rattle.leaves.proofs.Lines.{octant-leaf, octant-split, kids-none, kids-more}

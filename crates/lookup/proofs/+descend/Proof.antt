@@ -2,7 +2,7 @@
 use mathlib.Core.Path.{_≡_, sym, _∙_}
 use native.Mathlib.Omega.{arith}
 use Rattle.lists.proofs.Tests.{failed, passed}
-use Rattle.octants.specs.Oct.{pos}
+use Rattle.space.specs.Space.{pos}
 use Rattle.octants.specs.Table.{read}
 use Rattle.lookup.proofs.Descent.{over-read, descent-leaf, descent-split, descent-down}
 use Prim.Native.Nat.{ℕ, _<_}

@@ -1,7 +1,8 @@
 -- `lookup::covering_leaf` meets its contract. Assumes nothing.
 use mathlib.Core.Path.{_∙_}
 use native.Mathlib.Omega.{arith}
-use Rattle.octants.specs.Oct.{pos, counts}
+use Rattle.space.specs.Space.{pos}
+use Rattle.octants.specs.Oct.{counts}
 use Rattle.octants.specs.Table.{read}
 use Rattle.lookup.proofs.Descent.{covered-outside, covered-inside, out-x, out-y, out-z, in-all}
 use borrow.Author.Needs.{needs}

@@ -1,6 +1,6 @@
 -- `lookup::has_finer_vertex` meets its contract. Assumes nothing.
 use native.Mathlib.Omega.{arith}
-use Rattle.octants.specs.Oct.{pos}
+use Rattle.space.specs.Space.{pos}
 use Rattle.octants.specs.Table.{read}
 use Rattle.lookup.proofs.Descent.{finest-none, off-x, off-y, off-z, on-grid, width-some}
 use Rattle.lookup.proofs.has_finer_vertex.Statement.{statement}

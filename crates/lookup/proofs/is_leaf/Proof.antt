@@ -1,5 +1,5 @@
 -- `lookup::is_leaf` meets its contract. Assumes nothing.
-use Rattle.octants.specs.Oct.{pos}
+use Rattle.space.specs.Space.{pos}
 use Rattle.octants.specs.Table.{read}
 use Rattle.lookup.proofs.Descent.{leaf-is}
 use borrow.Author.Needs.{needs}

@@ -1,6 +1,6 @@
 -- `lookup::leaf_at` meets its contract. Assumes nothing.
 use mathlib.Core.Path.{_∙_}
-use Rattle.octants.specs.Oct.{pos}
+use Rattle.space.specs.Space.{pos}
 use Rattle.octants.specs.Table.{read}
 use Rattle.lookup.proofs.Descent.{corner-x, corner-y, corner-z, corner-in}
 use borrow.Author.Needs.{needs}

@@ -1,7 +1,8 @@
 -- `lookup::leaf_in_layer` meets its contract. Assumes nothing.
-use Rattle.octants.specs.Oct.{pos, any}
+use Rattle.space.specs.Space.{pos}
+use Rattle.lists.specs.Tests.{any}
 use Rattle.octants.specs.Table.{read}
-use Rattle.cells.specs.Cells.{leafAt}
+use Rattle.octree_cells.specs.Cells.{leafAt}
 use Rattle.lookup.proofs.Descent.{one-of-two, other-of-two}
 use borrow.Author.Needs.{needs}
 use Rattle.lookup.proofs.leaf_in_layer.Statement.{statement}

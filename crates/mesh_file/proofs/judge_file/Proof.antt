@@ -1,7 +1,7 @@
 use mathlib.Core.Path.{_≡_, refl, sym, ap, _∙_}
 use native.Mathlib.Omega.{arith}
 use Rattle.lists.specs.Tables.{allBelow}
-use Rattle.lists.proofs.Rows.{stops}
+use Rattle.refusals.proofs.Rows.{stops}
 use Rattle.lists.proofs.Tests.{failed, passed}
 use Rattle.mesh_file.specs.Read.{fileRows}
 use Rattle.mesh_file.proofs.Sections.{laid, count-second, cells-read, cells-room, file-1, file-2, file-3, file-4}

@@ -4,7 +4,7 @@ use Rattle.mesh_file.proofs.numbers_match.Statement.{statement}
 use Rattle.mesh_file.proofs.numbers_match.Tie as tie
 use Rattle.mesh_file.proofs.numbers_match.Reads as reads
 use Rattle.mesh_file.proofs.numbers_match.Lts as lts
-use Rattle.file_numbers.proofs.numbers_right.Reads as numbers-right-reads
+use Rattle.file_components.proofs.numbers_right.Reads as numbers-right-reads
 use Rattle.lists.proofs.zero.Reads as zero-reads
 use Rattle.mesh_file.proofs.count.Reads as count-reads
 use Rattle.mesh_file.proofs.end_of.Reads as end-of-reads

@@ -5,7 +5,7 @@ use Rattle.mesh_file.proofs.put_mesh.Statement.{statement}
 use Rattle.mesh_file.proofs.put_mesh.Tie as tie
 use Rattle.mesh_file.proofs.put_mesh.Reads as reads
 use Rattle.mesh_file.proofs.put_mesh.Lts as lts
-use Rattle.file_numbers.proofs.put_numbers.Reads as put-numbers-reads
+use Rattle.file_components.proofs.put_numbers.Reads as put-numbers-reads
 use Rattle.mesh_file.proofs.put_section.Reads as put-section-reads
 use Rattle.words.proofs.put_word.Reads as put-word-reads
 

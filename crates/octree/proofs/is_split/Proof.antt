@@ -1,5 +1,6 @@
 -- `octree::is_split` meets its contract. Assumes nothing.
-use Rattle.octants.specs.Oct.{pos, counts}
+use Rattle.space.specs.Space.{pos}
+use Rattle.octants.specs.Oct.{counts}
 use mathlib.Core.Path.{_∙_}
 use Prim.Native.Nat.{suc, _-_}
 use native.Mathlib.Omega.{arith}

@@ -1,7 +1,7 @@
 -- `refine::clear` meets its contract. Assumes nothing.
 use Prim.Native.Nat.{suc, _-_, _≤_}
 use native.Mathlib.Omega.{arith}
-use Rattle.octants.specs.Oct.{pos}
+use Rattle.space.specs.Space.{pos}
 use Rattle.octants.proofs.TableLaws.{off-le}
 use Rattle.refine.proofs.Clearing.{Cleared, cleared-start, cleared-turn, cleared-all}
 use Rattle.refine.proofs.clear.Statement.{statement}

@@ -3,7 +3,7 @@ use mathlib.Core.Bool.{_&&_}
 use Prim.Native.Nat.{_+_, _-_, _/_, _≤_}
 use native.Mathlib.Omega.{arith}
 use borrow.Author.Needs.{needs}
-use Rattle.octants.specs.Table.{bit}
+use Rattle.lists.specs.Tests.{bit}
 use Rattle.balance.specs.Shell.{one}
 use Rattle.balance.specs.Sweep.{Swept}
 use Rattle.balance.proofs.Sweeping.{swept-none, swept-more, swept-end}

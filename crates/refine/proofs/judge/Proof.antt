@@ -1,7 +1,7 @@
 -- `refine::judge` meets its contract. Assumes nothing.
 use borrow.Author.Tests.{eq-eqb, ne-eqb}
 use borrow.Author.Needs.{needs}
-use Rattle.lists.specs.Ladder.{first}
+use Rattle.refusals.specs.Rows.{first}
 use Rattle.lists.proofs.Tests.{failed, passed}
 use Rattle.refine.specs.Step.{crossingRows}
 use Rattle.refine.proofs.judge.Statement.{statement}

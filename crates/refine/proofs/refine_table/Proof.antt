@@ -3,7 +3,8 @@ use mathlib.Core.Path.{ap, _∙_}
 use native.Mathlib.Omega.{arith}
 use lib.ListN.{length}
 use Rattle.lists.specs.Tables.{allAtMost}
-use Rattle.octants.specs.Oct.{pos, raw}
+use Rattle.space.specs.Space.{pos}
+use Rattle.octants.specs.Oct.{raw}
 use Rattle.octants.specs.Table.{read}
 use Rattle.refine.proofs.Tables.{none-done, table-done}
 use borrow.Author.Needs.{needs}

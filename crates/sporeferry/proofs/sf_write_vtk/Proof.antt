@@ -4,7 +4,7 @@ use Rattle.sporeferry.proofs.sf_write_vtk.Statement.{statement}
 use Rattle.sporeferry.proofs.sf_write_vtk.Tie as tie
 use Rattle.sporeferry.proofs.sf_write_vtk.Reads as reads
 use Rattle.sporeferry.proofs.sf_write_vtk.Lts as lts
-use Rattle.vtk_file.proofs.write_vtk.Reads as write-vtk-reads
+use Rattle.vtk_writer.proofs.write_vtk.Reads as write-vtk-reads
 use Rattle.sporeferry.proofs.of_written.Reads as of-written-reads
 
 write-vtk-requires : tie.Need-write-vtk-requires

@@ -1,6 +1,0 @@
--- Laws that the proofs of compact share.
-pub mod Using
-pub mod Weighing
-pub mod Placing
-pub mod Keeping
-pub mod Meaning

@@ -1,0 +1,3 @@
+-- Laws that the proofs of file_components share.
+pub mod Joining
+pub mod Comparing

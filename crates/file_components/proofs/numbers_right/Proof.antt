@@ -1,0 +1,30 @@
+use mathlib.Core.Path.{_≡_, ap, _∙_}
+use Prim.Native.Nat.{ℕ}
+use lib.ListN.{replicate}
+use borrow.Author.Needs.{needs}
+use Rattle.file_components.proofs.numbers_right.Statement.{statement}
+use Rattle.file_components.proofs.numbers_right.Tie as tie
+use Rattle.file_components.proofs.numbers_right.Reads as reads
+use Rattle.file_components.proofs.numbers_right.Lts as lts
+use Rattle.file_components.proofs.compare.Reads as compare-reads
+use Rattle.file_components.proofs.prepare.Reads as prepare-reads
+use Rattle.lists.proofs.zero.Reads as zero-reads
+
+prepare-requires : tie.Need-prepare-requires
+prepare-requires c κs = search needs
+
+compare-requires : tie.Need-compare-requires
+compare-requires c κs = search needs
+
+zero-requires : tie.Need-zero-requires
+zero-requires c κs = search needs
+
+same-length : tie.Need-same-length
+same-length c = search needs
+
+returns : tie.Need-returns
+returns c = record { right = c .before .before .before .before .before .before .compare .ensures; zero = c .before .before .zero .ensures ∙ ap (λ (k : ℕ). replicate k 0) (c .before .before .before .before .before .before .compare .kept .1 .1 .1 .1 .1 .1 .0 ∙ c .before .before .before .before .before .before .before .before .before .before .prepare .kept .1 .1 .1 .1 .1 .0) }
+
+pub numbers-right-spec : {M : Type 1} → statement M
+numbers-right-spec =
+    tie.close (tie.spec prepare-requires compare-requires zero-requires same-length returns)

@@ -1,0 +1,2 @@
+-- The definitions that the contracts of file_components cite.
+pub mod Stored

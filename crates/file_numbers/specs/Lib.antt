@@ -1,2 +1,0 @@
--- The definitions that the contracts of file_numbers cite.
-pub mod Stored

@@ -1,0 +1,6 @@
+-- Laws that the proofs of marked share.
+pub mod Using
+pub mod Weighing
+pub mod Placing
+pub mod Keeping
+pub mod Meaning

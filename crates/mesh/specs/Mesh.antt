@@ -1,0 +1,27 @@
+-- A mesh as document 01 has it: a table of points, three numbers a point, and a table of cells, four points a cell.
+use mathlib.Core.Path.{_≡_}
+use mathlib.Core.List.{List}
+use Prim.Native.Nat.{ℕ, _+_, _*_, _/_, _≤_, _<_}
+use lib.ListN.{length, getD}
+use Rattle.mesh.specs.declared.Cell.{Cell}
+
+-- points and cells, in whole entries, and the bound of each
+abbrev pub pointsOf : List ℕ → ℕ
+pointsOf P = length P / 3
+
+abbrev pub cellsOf : List ℕ → ℕ
+cellsOf C = length C / 4
+
+abbrev pub most : ℕ
+most = 536870912
+
+-- whole cells, not too many, that name points below n
+pub record Cells (C : List ℕ) (n : ℕ) : Type 0 where
+  pub whole : length C ≡ 4 * cellsOf C
+  pub few : cellsOf C ≤ most
+  pub small : n ≤ most
+  pub names : (p : ℕ) → p < length C → getD C p 0 < n
+
+-- the four points of the cell i
+unfoldable pub cellOf : List ℕ → ℕ → Cell
+cellOf C i = record { a = getD C (4 * i) 0; b = getD C (4 * i + 1) 0; c = getD C (4 * i + 2) 0; d = getD C (4 * i + 3) 0 }

@@ -1,9 +1,0 @@
--- Laws that the proofs of numbering share.
-pub mod Members
-pub mod Parting
-pub mod Sinking
-pub mod Halves
-pub mod Front
-pub mod Ranks
-pub mod Packing
-pub mod Indexing

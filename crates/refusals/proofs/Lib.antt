@@ -1,0 +1,2 @@
+-- Laws of the refusals in their order.
+pub mod Rows

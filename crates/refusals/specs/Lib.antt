@@ -1,0 +1,2 @@
+-- Refusals in their order.
+pub mod Rows

@@ -1,0 +1,1 @@
+// Refusals in their order: definitions and laws only.

@@ -1,0 +1,2 @@
+-- Laws of places and frames.
+pub mod Space

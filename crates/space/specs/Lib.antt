@@ -1,0 +1,2 @@
+-- Places in space, which plan, octree and grid share.
+pub mod Space

@@ -1,0 +1,1 @@
+// Axes, places and frames: definitions and laws only.

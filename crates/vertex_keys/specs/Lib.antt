@@ -1,0 +1,3 @@
+-- The definitions that the contracts of vertex_keys cite.
+pub mod Distinct
+pub mod Keys

@@ -1,2 +1,0 @@
--- Laws that the proofs of vtk_file share.
-pub mod Writing

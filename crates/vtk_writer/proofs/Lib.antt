@@ -1,0 +1,2 @@
+-- Laws that the proofs of vtk_writer share.
+pub mod Writing

@@ -1,0 +1,2 @@
+-- The definitions that the contracts of vtk_writer cite.
+pub mod Write
