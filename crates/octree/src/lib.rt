@@ -7,6 +7,22 @@ ghost use Rattle.octants.specs.Oct.{counts, hit};
 ghost use Rattle.octants.specs.Table.{depth, size, off, at, read};
 ghost use Rattle.octants.specs.Levels.{Dims};
 
+// The roots along the axes, and how many levels stand below them.
+pub struct Roots {
+    pub nx: usize,
+    pub ny: usize,
+    pub nz: usize,
+    pub levels: usize,
+}
+
+// An octant: its level, and its place in units of that level.
+pub struct Octant {
+    pub level: usize,
+    pub x: usize,
+    pub y: usize,
+    pub z: usize,
+}
+
 // The place of octant (x, y, z) in a level with nx by ny octants to a layer.
 pub fn slot_of(nx: usize, ny: usize, x: usize, y: usize, z: usize) -> usize
     requires { ⌜ (nx * ny < 2 ^ 63) × (x + y * nx + z * (nx * ny) < 2 ^ 63) ⌝ }

@@ -1,2 +1,3 @@
--- Refusals in their order.
+-- Refusals in their order, and the outcome of a step that counts.
 pub mod Rows
+pub mod Counted
