@@ -18,8 +18,8 @@ use Rattle.vertex_keys.specs.Distinct.{distinctSorted, rank, numbered, Rising, 
 use Rattle.vertex_keys.proofs.Members.{same-distinct}
 use Rattle.vertex_keys.proofs.Ranks.{numbered-front, numbered-rises}
 use Rattle.vertex_keys.proofs.Indexing.{same-rises, rising-sorted, find-ready}
-use Rattle.lattice.specs.Lattice.{spread}
-use Rattle.lattice.specs.Storing.{dimsOf, tripleAt, pointAt}
+use Rattle.plan.specs.Vertices.{spread}
+use Rattle.plan.specs.Vertices.{dimsOf, tripleAt, pointAt}
 use Rattle.grid.specs.Grid.{gridCells, gridVertices, vertexKeys, numberAt, cellTable, tripleTable, pointTable}
 use Rattle.grid.specs.Step.{cellCount, vertexCount}
 use Rattle.grid.specs.Octree.{keyTable}

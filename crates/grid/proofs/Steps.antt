@@ -23,7 +23,7 @@ use Rattle.plan.proofs.Ready.{ReadyPlan, ready}
 use Rattle.plan.specs.declared.Bounds.{Bounds}
 use Rattle.plan.specs.declared.Plan.{Plan}
 use Rattle.plan.specs.declared.Planned.the-variants as planned
-use Rattle.lattice.specs.Storing.{dimsOf}
+use Rattle.plan.specs.Vertices.{dimsOf}
 use Rattle.grid.specs.Grid.{cellTable, tripleTable, pointTable}
 use Rattle.grid.specs.Step.{cellCount, vertexCount, lacksCells, lacksVertices, splitRows, filledOf, gridOf, resultAfter, gridWork, Filled, GridDone, Planful}
 use Rattle.grid.specs.Octree.{Stocked}

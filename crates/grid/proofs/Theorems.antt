@@ -26,7 +26,7 @@ use Rattle.sides.specs.Told.{Taken}
 use Rattle.leaf_cells.proofs.Bounds.{far, near-packs, cells-near}
 use Rattle.plan.specs.declared.Plan.{Plan}
 use Rattle.lattice.specs.Lattice.{latticeCells, latticeVertices, LatticeVertex, indexOf}
-use Rattle.lattice.specs.Storing.{dimsOf}
+use Rattle.plan.specs.Vertices.{dimsOf}
 use Rattle.lattice.proofs.Named.{Each, named, listed, cells-vertices}
 use Rattle.grid.specs.Grid.{gridCells, gridVertices, vertexKeys, numberAt, cellTable}
 use Rattle.grid.specs.Step.{vertexCount}

@@ -9,7 +9,7 @@ use Rattle.lists.specs.Runs.{run, sums, Room}
 use Rattle.lists.proofs.Running.{run-same, length-run, sum-same, sum-flat}
 use Rattle.space.specs.Space.{Axis, ax, ay, az, Pos}
 use Rattle.vertex_keys.specs.Keys.{tripleOf}
-use Rattle.lattice.specs.Lattice.{spread}
+use Rattle.plan.specs.Vertices.{spread}
 use Rattle.grid.specs.Octree.{threeOf, keyTable}
 
 run-shift : {A : Type 0} (n : ℕ) (f : ℕ → List A) (i : ℕ) → run n f (suc i) ≡ run n (λ j. f (suc j)) i

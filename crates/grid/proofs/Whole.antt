@@ -24,10 +24,10 @@ use Rattle.plan.specs.declared.Plan.{Plan}
 use Rattle.plan.specs.declared.Planned.{Planned}
 use Rattle.plan.specs.declared.Planned.the-variants as planned
 use Rattle.sides.specs.Told.{Taken}
-use Rattle.lattice.specs.Lattice.{latticeVertices, LatticeVertex, indexOf, spread}
+use Rattle.lattice.specs.Lattice.{latticeVertices, LatticeVertex, indexOf}
 use Rattle.lattice.proofs.Formulas.{cells-count, vertices-count}
 use Rattle.lattice.proofs.Named.{named, listed}
-use Rattle.lattice.specs.Storing.{dimsOf, tripleAt, pointAt}
+use Rattle.plan.specs.Vertices.{dimsOf, tripleAt, pointAt, spread}
 use Rattle.grid.specs.Grid.{gridVertices, cellTable, tripleTable, pointTable}
 use Rattle.grid.specs.Step.{cellCount, vertexCount, lacksCells, lacksVertices, splitRows, filledOf, gridOf, resultAfter, GridDone}
 use Rattle.grid.specs.Whole.{along, threeAt, OctreeVertices, LatticeVertices, Whole}

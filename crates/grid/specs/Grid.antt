@@ -7,8 +7,8 @@ use Rattle.octants.specs.Table.{read}
 use Rattle.octree_cells.specs.Cells.{Cell, cells, flat}
 use Rattle.vertex_keys.specs.Keys.{keyOf, tripleOf}
 use Rattle.vertex_keys.specs.Distinct.{distinctSorted, rank}
-use Rattle.lattice.specs.Lattice.{latticeCells, latticeVertices, indexOf, spread}
-use Rattle.lattice.specs.Storing.{tripleAt, pointAt, dimsOf}
+use Rattle.lattice.specs.Lattice.{latticeCells, latticeVertices, indexOf}
+use Rattle.plan.specs.Vertices.{tripleAt, pointAt, dimsOf, spread}
 use Rattle.plan.specs.declared.Plan.{Plan}
 
 -- the cells: the lattice's for l = 0, else those of the leaves

@@ -14,7 +14,7 @@ use Rattle.octants.specs.Table.{off}
 use Rattle.plan.specs.Plan.{planOf, planRows, onPlan}
 use Rattle.plan.specs.declared.Bounds.{Bounds}
 use Rattle.plan.specs.declared.Plan.{Plan}
-use Rattle.lattice.specs.Storing.{dimsOf}
+use Rattle.plan.specs.Vertices.{dimsOf}
 use Rattle.grid.specs.Grid.{gridCells, gridVertices, cellTable, tripleTable, pointTable}
 use Rattle.grid.specs.declared.Gridded.{Gridded}
 use Rattle.grid.specs.declared.Gridded.the-variants.{Done, Refused, NoCells, NoVertices}

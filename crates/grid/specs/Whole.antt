@@ -11,7 +11,7 @@ use Rattle.space.specs.Space.{Axis, ax, ay, az, Pos, pos}
 use Rattle.octree_cells.specs.Cells.{Cell}
 use Rattle.vertex_keys.specs.Keys.{Before}
 use Rattle.lattice.specs.Lattice.{evens, odds, size, LatticeVertex, indexOf}
-use Rattle.lattice.specs.Storing.{pointAt, dimsOf}
+use Rattle.plan.specs.Vertices.{pointAt, dimsOf}
 use Rattle.plan.specs.declared.Plan.{Plan}
 use Rattle.grid.specs.Grid.{gridCells, gridVertices}
 use Rattle.grid.specs.Step.{cellCount, vertexCount}

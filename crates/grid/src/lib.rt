@@ -7,7 +7,7 @@ ghost use Rattle.refusals.specs.Rows.{first};
 ghost use Rattle.grid.specs.Step.{lacksCells, lacksVertices, splitRows, Planful, Filled, GridDone};
 ghost use Rattle.sides.specs.Told.{Taken};
 ghost use Rattle.grid.specs.Octree.{keyTable, KeysFit, Numberable, Ready, Fillable, Stocked};
-ghost use Rattle.lattice.specs.Storing.{tripleAt, pointAt};
+ghost use Rattle.plan.specs.Vertices.{tripleAt, pointAt};
 ghost use lib.Seq.{sets};
 use plan::Bounds;
 use plan::Plan;

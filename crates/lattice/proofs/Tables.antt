@@ -12,8 +12,9 @@ use Rattle.lists.proofs.Running.{run-same, run-map}
 use Rattle.space.specs.Space.{Axis, ax, ay, az, Pos, pos, next}
 use Rattle.octree_cells.specs.Cells.{Cell, flat}
 use Rattle.plan.specs.declared.Plan.{Plan}
-use Rattle.lattice.specs.Lattice.{evens, odds, size, boxUp, doubled, slot, step, indexOf, axisCells, centreCells, latticeCells, latticeVertices, latticeTable, octaNumbers, spread}
-use Rattle.lattice.specs.Storing.{numbersAt, rowNumbers, cellsAt, rowCells, layerCells, allCells, rowOf, layerOf, boxOf, verticesOf, dimsOf}
+use Rattle.lattice.specs.Lattice.{evens, odds, size, boxUp, doubled, slot, step, indexOf, axisCells, centreCells, latticeCells, latticeVertices, latticeTable, octaNumbers}
+use Rattle.plan.specs.Vertices.{dimsOf, spread}
+use Rattle.lattice.specs.Storing.{numbersAt, rowNumbers, cellsAt, rowCells, layerCells, allCells, rowOf, layerOf, boxOf, verticesOf}
 use Rattle.lattice.proofs.Octahedra.{there, axis-numbers}
 
 -- ---- the cells

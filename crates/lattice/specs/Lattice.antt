@@ -5,7 +5,6 @@ use mathlib.Core.Bool.{Bool, cond, _&&_}
 use mathlib.Core.List.{List, [], _∷_, _++_}
 use Prim.Native.Nat.{ℕ, _+_, _*_, _-_, _/_, _%_, _≤_}
 use lib.Dec.{eqb, leb}
-use lib.Ieee.{Float}
 use Rattle.lists.specs.Runs.{run}
 use Rattle.space.specs.Space.{Axis, ax, ay, az, Pos, pos, frame, next}
 use Rattle.octree_cells.specs.Cells.{Cell, cell, flat}
@@ -93,11 +92,6 @@ latticeCells d = boxUp (odds d) (λ x. centreCells d (doubled 1 x))
 -- the cells by the numbers of their vertices
 abbrev pub latticeTable : Pos → List ℕ
 latticeTable d = flat (indexOf d) (latticeCells d)
-
--- three entries a vertex: what g gives along each axis
-unfoldable pub spread : (Axis → ℕ → ℕ) → List Pos → List ℕ
-spread g [] = []
-spread g (p ∷ ps) = g ax (p ax) ∷ g ay (p ay) ∷ g az (p az) ∷ spread g ps
 
 -- ---- in closed form
 

@@ -10,7 +10,8 @@ use Rattle.lists.specs.Runs.{run, Stored, Room}
 use Rattle.space.specs.Space.{Axis, ax, ay, az, Pos, pos}
 use Rattle.octree_cells.specs.Cells.{flat}
 use Rattle.plan.specs.Plan.{placeOf}
-use Rattle.lattice.specs.Lattice.{odds, doubled, indexOf, latticeVertices, latticeCells, centreCells, octaNumbers, spread}
+use Rattle.plan.specs.Vertices.{dimsOf, spread}
+use Rattle.lattice.specs.Lattice.{odds, doubled, indexOf, latticeVertices, latticeCells, centreCells, octaNumbers}
 use Rattle.lattice.specs.declared.Counts.{Counts}
 use Rattle.plan.specs.declared.Plan.{Plan}
 
@@ -71,18 +72,6 @@ pub record InLayer (nx ny nz k : ℕ) : Type 0 where
 
 -- ---- the vertices
 
--- three entries along the axes: the triple itself, and the bits of the point
-abbrev pub tripleAt : Axis → ℕ → ℕ
-tripleAt a v = v
-
-abbrev pub originAt : Plan → Axis → Float
-originAt p ax = p .ox
-originAt p ay = p .oy
-originAt p az = p .oz
-
-abbrev pub pointAt : Plan → Axis → ℕ → ℕ
-pointAt p a v = placeOf (originAt p a) (p .half) v
-
 -- a row of n, a layer of m rows, and a box of l layers
 abbrev pub rowTriples : (e y z n : ℕ) → List ℕ
 rowTriples e y z n = run n (λ i. (2 * i + e) ∷ y ∷ z ∷ []) 0
@@ -99,10 +88,7 @@ layerOf g e n m k = run m (rowOf g e n k) 0
 abbrev pub boxOf : (Axis → ℕ → ℕ) → (e n m l : ℕ) → List ℕ
 boxOf g e n m l = run l (layerOf g e n m) 0
 
--- the dimensions of a plan, and its vertices as a table
-abbrev pub dimsOf : Plan → Pos
-dimsOf p = pos (p .nx) (p .ny) (p .nz)
-
+-- the vertices of a plan as a table
 abbrev pub verticesOf : (Axis → ℕ → ℕ) → Plan → List ℕ
 verticesOf g p = spread g (latticeVertices (dimsOf p))
 

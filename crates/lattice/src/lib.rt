@@ -7,7 +7,8 @@ ghost use lib.Seq.{sets};
 ghost use Rattle.space.specs.Space.{ay, az, pos};
 ghost use Rattle.lattice.specs.Lattice.{odds, latticeTable, octaNumbers};
 use plan::Plan;
-ghost use Rattle.lattice.specs.Storing.{Dims, Counted, OctaFits, rowNumbers, RowFits, InLayer, rowCells, layerCells, allCells, BothRoom, BothStored, rowTriples, rowPoints, tripleAt, pointAt, rowOf, layerOf, boxOf, verticesOf};
+ghost use Rattle.plan.specs.Vertices.{tripleAt, pointAt};
+ghost use Rattle.lattice.specs.Storing.{Dims, Counted, OctaFits, rowNumbers, RowFits, InLayer, rowCells, layerCells, allCells, BothRoom, BothStored, rowTriples, rowPoints, rowOf, layerOf, boxOf, verticesOf};
 
 pub struct Counts {
     pub cells: usize,

@@ -1,2 +1,3 @@
 -- The plan of a grid: document 01, "Plan" and "Numbers that bound a call".
 pub mod Plan
+pub mod Vertices

@@ -9,7 +9,7 @@ use Rattle.lists.proofs.Tests.{failed, passed}
 use Rattle.space.specs.Space.{Pos}
 use Rattle.lists.specs.Tests.{any}
 use Rattle.octants.specs.Judge.{isGraded}
-use Rattle.lattice.specs.Storing.{dimsOf}
+use Rattle.plan.specs.Vertices.{dimsOf}
 use Rattle.grid.specs.Step.{splitRows}
 use borrow.Author.Needs.{needs}
 use Rattle.grid.proofs.judge.Statement.{statement}

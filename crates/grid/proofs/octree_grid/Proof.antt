@@ -4,7 +4,7 @@ use native.Mathlib.Omega.{arith}
 use lib.Seq.{length-take-le}
 use Rattle.leaves.proofs.Walking.{six-each, some-leaf, cells-few}
 use Rattle.octants.specs.Table.{read}
-use Rattle.lattice.specs.Storing.{dimsOf}
+use Rattle.plan.specs.Vertices.{dimsOf}
 use Rattle.grid.proofs.Outcomes.{cells-room, no-cells}
 use Rattle.grid.proofs.Octrees.{octree-cell-count}
 use Rattle.grid.proofs.Steps.{fill-whole}

@@ -6,7 +6,7 @@ use lib.ListN.{length, getD}
 use lib.Seq.{sets}
 use Rattle.lists.specs.Runs.{run, Storing}
 use Rattle.lists.proofs.Running.{loop-start, loop-next, loop-room, loop-done, storing-length}
-use Rattle.lattice.specs.Storing.{tripleAt, pointAt}
+use Rattle.plan.specs.Vertices.{tripleAt, pointAt}
 use Rattle.grid.specs.Octree.{threeOf, keyTable}
 use Rattle.grid.proofs.Vertices.{key-room, three-same}
 use Rattle.grid.proofs.store_vertices.Statement.{statement}

@@ -1,6 +1,6 @@
 use native.Mathlib.Omega.{arith}
 use Rattle.lists.proofs.Running.{room-first, stored-both, storing-start, storing-on, storing-room}
-use Rattle.lattice.specs.Storing.{tripleAt, pointAt}
+use Rattle.plan.specs.Vertices.{tripleAt, pointAt}
 use Rattle.lattice.proofs.Tables.{vertices-split}
 use borrow.Author.Needs.{needs}
 use Rattle.lattice.proofs.store_vertices.Statement.{statement}

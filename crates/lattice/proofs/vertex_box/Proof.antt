@@ -2,7 +2,8 @@ use Prim.Native.Nat.{_+_, _-_, _≤_}
 use native.Mathlib.Omega.{arith}
 use Rattle.lists.specs.Runs.{run, Storing}
 use Rattle.lists.proofs.Running.{loop-start, loop-next, loop-room, loop-done, storing-length}
-use Rattle.lattice.specs.Storing.{tripleAt, pointAt, rowOf, layerOf, boxOf}
+use Rattle.plan.specs.Vertices.{tripleAt, pointAt}
+use Rattle.lattice.specs.Storing.{rowOf, layerOf, boxOf}
 use Rattle.lattice.proofs.vertex_box.Statement.{statement}
 use Rattle.lattice.proofs.vertex_box.Tie as tie
 use Rattle.lattice.proofs.vertex_box.Reads as reads
