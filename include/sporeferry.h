@@ -31,7 +31,7 @@
  *    4  too large: octree dims above 64, lattice dims above 128, more than 1,048,576 octants, more than 536,870,912
  *       points or cells (whole entries are counted); or a computed domain bound, origin, extent or far corner is not
  *       finite
- *    5  an input table has the wrong length, or a work table is too short
+ *    5  an input table has the wrong length, or a work table is too short (in the grid and the readers: 9)
  *    6  a byte above 1 in a table of answers or in a split table
  *    7  the split table has a split octant under an unsplit one, or touching leaves more than one level apart
  *    8  a cell names a point that is not there
