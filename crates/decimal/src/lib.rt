@@ -18,12 +18,6 @@ pub enum Counted {
     Stopped(u32),
 }
 
-fn wide(x: u8) -> usize
-    ensures { λ r. ⌜ (r ≡ x) × (r < 256) ⌝ }
-{
-    x as usize
-}
-
 // Passes over a text.
 pub fn text(file: &[u8], at: usize, text: &[u8]) -> Place
     ensures { λ r. ⌜ r ≡ textAt (now (text .entry)) (now (file .entry)) at ⌝ }
@@ -116,7 +110,7 @@ fn more_digits(file: &[u8], at: usize, x: usize) -> Counted
         if file.len() <= q {
             return Counted::Read(value, q);
         }
-        let byte = wide(file[q]);
+        let byte = lists::wide8(file[q]);
         if byte < 48 {
             return Counted::Read(value, q);
         }
@@ -137,7 +131,7 @@ pub fn count(file: &[u8], at: usize) -> Counted
     if file.len() <= at {
         return Counted::Stopped(11);
     }
-    let byte = wide(file[at]);
+    let byte = lists::wide8(file[at]);
     if byte < 48 {
         return Counted::Stopped(14);
     }

@@ -2,14 +2,6 @@
 use libc::STDOUT_FILENO;
 use mesh_file::Loaded;
 use mesh_file::Written;
-ghost use mathlib.Core.Path.{_≡_};
-ghost use Prim.Native.Nat.{_<_};
-
-fn wide(x: u8) -> u32
-    ensures { λ r. ⌜ (r ≡ x) × (r < 256) ⌝ }
-{
-    x as u32
-}
 
 fn print_text(text: &[u8]) {
     io::write_all(STDOUT_FILENO, text);
@@ -203,7 +195,7 @@ fn respellings(title: &[u8], sample: &[u8], many: usize, bytes: &[u8]) {
 
 // A byte that many further on.
 fn shifted(x: u8, by: u8) -> u8 {
-    ((wide(x) + wide(by)) % 256) as u8
+    ((lists::word8(x) + lists::word8(by)) % 256) as u8
 }
 
 // At every place another byte.

@@ -7,17 +7,14 @@ ghost use lib.Seq.{sets};
 ghost use Rattle.lists.specs.Tables.{allBelow, same};
 ghost use Rattle.words.specs.Words.{bytes4, bytesOf, four, Bytes, turnedOf, wordAt, placeOf, wordsAt, spanOf};
 
-fn wide(x: u8) -> u32
-    ensures { λ r. ⌜ (r ≡ x) × (r < 256) ⌝ }
-{
-    x as u32
-}
-
 // The number that four bytes are, the low byte first.
 fn low_first(a: u8, b: u8, c: u8, d: u8) -> u32
     ensures { λ r. ⌜ (r ≡ four false a b c d) × Bytes a b c d ⌝ }
 {
-    wide(a) + 256 * wide(b) + 65_536 * wide(c) + 16_777_216 * wide(d)
+    lists::word8(a)
+        + 256 * lists::word8(b)
+        + 65_536 * lists::word8(c)
+        + 16_777_216 * lists::word8(d)
 }
 
 // The word at a place. The order of the bytes is asked before they are read, so that they are one load.
