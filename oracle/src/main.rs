@@ -1,4 +1,4 @@
-//! `compare`: holds the library against the lifted Rust and the model of document 01.
+//! `compare`: holds the library against the lifted Rust and the model of docs/RULES.md.
 
 use oracle::steps::{self, Sizes};
 use std::process::ExitCode;

@@ -62,7 +62,7 @@ fn file() -> Vec<u8> {
 }
 
 #[test]
-fn the_file_has_the_bytes_of_document_01() {
+fn the_file_has_the_bytes_of_its_layout() {
     let file = file();
     assert_eq!(file.len(), 12 + 12 * 4 + 20);
     assert_eq!(file[..8], [4, 0, 0, 0, 0, 0, 0, 0]);

@@ -1,4 +1,4 @@
-//! The lifted Rust against document 01's own words, worked out another way.
+//! The lifted Rust against docs/RULES.md, worked out another way.
 
 use lifted::lent::Layout;
 use oracle::calls::PlanCall;

@@ -1,4 +1,4 @@
-//! The lifted Rust and the model on the worked numbers of document 01.
+//! The lifted Rust and the model on the worked numbers of docs/RULES.md, section 13.
 
 use oracle::expected::components::numbers_of;
 use oracle::expected::grid::{found, Grid};

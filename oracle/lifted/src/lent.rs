@@ -4,7 +4,7 @@
 use crate::math::{Real, Vector};
 use std::cell::RefCell;
 
-/// Where document 01 puts the octants of levels L down to 1 in one dense table: level L first,
+/// Where the octants of levels L down to 1 stand in one dense table (rule 3.4): level L first,
 /// within a level (i, j, k) at i + j·nx + k·nx·ny.
 #[derive(Copy, Clone, Debug, PartialEq, Eq)]
 pub struct Layout {

@@ -5,7 +5,7 @@ use super::plan::{aabb, octree, plan};
 use crate::library::{Answer, Bounds};
 use lifted::transformation::volume_mesh::isosurface_stuffing::doors::{domain, uniform_grid};
 
-/// A grid as document 01 answers it, in flat tables.
+/// A grid as it is answered (rule 5.3), in flat tables.
 pub struct Grid {
     pub cells: Vec<u32>,
     pub triples: Vec<u32>,

@@ -1,4 +1,4 @@
-//! The mesh file: a plain model of document 01, since the Rust has none.
+//! The mesh file: a plain model of section 9 of docs/RULES.md, since the Rust has none.
 
 use super::components::{numbers_of, refusal};
 use super::mesh::Mesh;

@@ -1,7 +1,7 @@
 //! What each step must answer and leave in the lent tables.
 //!
-//! Refusals and their order are a plain model of document 01, read as docs/DECISIONS.md says. What
-//! is answered comes from the lifted Rust, except for the files, which the Rust does not have.
+//! Refusals and their order are a plain model of docs/RULES.md, sections 10 to 12. What is answered
+//! comes from the lifted Rust, except for the files, which the Rust does not have.
 
 pub mod components;
 pub mod graded;

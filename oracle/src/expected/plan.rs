@@ -1,4 +1,4 @@
-//! Plan: document 01's operations in its order, tied to the heads of the lifted functions.
+//! Plan: the operations of rules 2.2 to 2.8 in their order, tied to the heads of the lifted functions.
 
 use crate::library::{Bounds, Planned};
 use lifted::bounding_volume::Aabb;

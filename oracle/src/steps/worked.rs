@@ -1,4 +1,4 @@
-//! The worked numbers of document 01 and the edge cases of docs/DECISIONS.md, with what they give.
+//! The worked numbers and edges of docs/RULES.md, section 13, with what they give.
 
 use crate::calls::PlanCall;
 use crate::library::Bounds;

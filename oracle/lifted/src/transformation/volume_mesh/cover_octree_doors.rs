@@ -43,7 +43,7 @@ impl Tree {
         self
     }
 
-    /// The subdivided octants as document 01's split table.
+    /// The subdivided octants as a split table (rules 3.4, 3.5).
     pub fn split_table(&self) -> Vec<u8> {
         let layout = self.layout();
         let mut table = alloc::vec![0; layout.len()];

@@ -2,7 +2,7 @@
 
 use super::*;
 
-/// `Lattice::covering`, as far as document 01's plan has it: origin, unit, dimensions.
+/// `Lattice::covering`, as far as the plan has it (rule 2.3): origin, unit, dimensions.
 pub fn lattice_over(aabb: Aabb, cell_size: Real) -> (Vector, Real, [i32; 3]) {
     let lattice = Lattice::covering(aabb, cell_size);
     (lattice.origin, lattice.half_cell, lattice.dims)
