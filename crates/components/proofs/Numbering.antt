@@ -7,7 +7,8 @@ use native.Mathlib.Omega.{arith}
 use lib.ListN.{length, getD, take, drop}
 use lib.Seq.{length-take-le}
 use Rattle.mesh.specs.Mesh.{cellsOf, most, Cells}
-use Rattle.components.specs.Numbers.{componentNumbers, Askable, NumberedAt, Linked}
+use Rattle.components.specs.Parts.{Askable, NumberedAt, Linked}
+use Rattle.components.specs.Numbers.{componentNumbers}
 use Rattle.components.proofs.Counting.{Counting, counting-start, counting-step, k-le, k-number}
 
 -- the first i cells were asked for: the work table has n parents, and behind them the numbers given

@@ -11,7 +11,8 @@ use Rattle.lists.specs.Tables.{same, allBelow}
 use Rattle.lists.proofs.Listing.{same-on, same-off, same-end}
 use Rattle.words.specs.Words.{wordAt, placeOf, wordsAt, spanOf}
 use Rattle.words.proofs.Words.{in-span, words-at, length-words}
-use Rattle.components.specs.Numbers.{componentNumbers, Askable, NumberedAt, Linked}
+use Rattle.components.specs.Parts.{Askable, NumberedAt, Linked}
+use Rattle.components.specs.Numbers.{componentNumbers}
 use Rattle.components.proofs.Patterns.{length-components}
 use Rattle.components.proofs.Counting.{alike-numbers}
 use Rattle.components.proofs.Numbering.{Numbering, numbering-start, asks-for, number-is, numbering-on}

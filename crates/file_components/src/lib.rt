@@ -10,7 +10,8 @@ ghost use Rattle.lists.specs.Tables.{same, allBelow};
 ghost use Rattle.words.specs.Words.{bytesOf, wordsAt, spanOf};
 ghost use Rattle.links.specs.Forest.{Forest};
 ghost use Rattle.links.specs.Vertices.{JoinedCell, Joint};
-ghost use Rattle.components.specs.Numbers.{componentNumbers, Linked, Fits};
+ghost use Rattle.components.specs.Parts.{Linked, Fits};
+ghost use Rattle.components.specs.Numbers.{componentNumbers};
 ghost use Rattle.file_components.specs.Stored.{Told, Noted};
 
 // Joins the vertices of the cell i.

@@ -1,4 +1,4 @@
 -- Laws that the proofs of groups share.
 pub mod Highest
 pub mod Noting
-pub mod Judging
+pub mod Unrefused

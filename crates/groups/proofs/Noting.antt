@@ -13,7 +13,7 @@ use Rattle.links.specs.Labels.{labelAt}
 use Rattle.links.specs.Walks.{Groups}
 use Rattle.links.specs.Forest.{Forest, Roots, Rooted}
 use Rattle.links.specs.Vertices.{SameCell, Joint}
-use Rattle.groups.specs.Settled.{Sized, Linked, RootNoted, Rooting, LastNoted, Labelled}
+use Rattle.groups.specs.Parts.{Sized, Linked, RootNoted, Rooting, LastNoted, Labelled}
 use Rattle.groups.proofs.Highest.{Last, last-is}
 
 -- ---- one root

@@ -1,3 +1,3 @@
 -- The definitions that the contracts of groups cite.
-pub mod Settled
 pub mod Judged
+pub mod Parts

@@ -1,45 +1,30 @@
 // The groups of the cells that are not crossed, and the highest cell of each, in one work table: n entries for the points, and behind
 // them one for each cell.
 ghost use mathlib.Core.Path.{_≡_};
-ghost use Prim.Native.Nat.{_+_, _<_};
+ghost use Prim.Native.Nat.{_+_, _≤_, _<_};
 ghost use lib.ListN.{length, getD};
 ghost use Rattle.refusals.specs.Rows.{first};
-ghost use Rattle.groups.specs.Judged.{sizeRows, crossedRows};
-ghost use Rattle.groups.specs.Settled.{RootAsked, RootNoted, Linked, Rooting, LastAsked, LastNoted, Sized, Labelled};
+ghost use Rattle.groups.specs.Judged.{crossedRows};
+ghost use Rattle.groups.specs.Parts.{RootAsked, RootNoted, Linked, Rooting, LastAsked, LastNoted, Sized, Labelled};
 use lists::wide;
 
-// The number that the lengths of points, cells and answers are refused with, and a work table shorter than `need`: 4, 5, or 0.
-pub fn judge_sizes(points: usize, cells: usize, answers: usize, room: usize, need: usize) -> u32
-    ensures { λ r. ⌜ r ≡ first (sizeRows points cells answers room need) ⌝ }
+// The number that a mesh with crossing answers is refused with by a step that asks `a` work entries a cell and `b` a point, and has `room`
+// of them: 4, 5, 6, 8, or 0. `points` is the length of the table of points.
+pub fn judge(points: usize, cells: &[u32], crossing: &[u8], room: usize, a: usize, b: usize) -> u32
+    requires { ⌜ (a ≤ 16) × (b ≤ 2) ⌝ }
+    ensures { λ r. ⌜ r ≡ first (crossedRows points (now (cells .entry)) (now (crossing .entry)) room a b) ⌝ }
 {
-    let number = mesh::judge_lengths(points, cells);
+    let number = mesh::judge_sizes(points, cells.len(), room, a, b);
     if number != 0 {
         return number;
     }
-    if answers != cells / 4 {
+    if crossing.len() != cells.len() / 4 {
         return 5;
-    }
-    if room < need {
-        return 5;
-    }
-    0
-}
-
-// The same with the tables themselves: 4, 5, 6, 8, or 0.
-pub fn judge(points: usize, cells: &[u32], crossing: &[u8], room: usize, need: usize) -> u32
-    ensures { λ r. ⌜ r ≡ first (crossedRows points (now (cells .entry)) (now (crossing .entry)) room need) ⌝ }
-{
-    let number = judge_sizes(points, cells.len(), crossing.len(), room, need);
-    if number != 0 {
-        return number;
     }
     if !lists::all_at_most(crossing, 1) {
         return 6;
     }
-    if !lists::all_below(cells, (points / 3) as u32) {
-        return 8;
-    }
-    0
+    mesh::judge_names(points, cells)
 }
 
 // Stores the root of the cell's first vertex in the cell's entry, unless the cell is crossed.

@@ -14,7 +14,7 @@ use Rattle.lists.specs.Tests.{bit}
 use Rattle.mesh.specs.Mesh.{cellsOf}
 use Rattle.lists.proofs.Cases.{eqOr, below-set}
 use Rattle.links.specs.Labels.{labelAt}
-use Rattle.groups.specs.Settled.{Sized, Labelled}
+use Rattle.groups.specs.Parts.{Sized, Labelled}
 use Rattle.groups.proofs.Highest.{label-below}
 use Rattle.marked.specs.Weighed.{markedIn}
 use Rattle.keep.specs.Marked.{crustMark, isInside, coverMark, coverIn, ProbeAsked, CoverAsked, MarksOf}

@@ -8,20 +8,21 @@ use Prim.Native.Nat.{ℕ, _*_, _/_, _<_}
 use lib.Dec.{eqb, ltb}
 use lib.Ieee.{Float}
 use lib.ListN.{length, getD}
-use Rattle.refusals.specs.Rows.{_when_, first, proper, rising, caused, lower}
+use Rattle.refusals.specs.Rows.{first, InTurn, proper, rising, caused, lower}
 use Rattle.mesh.specs.Mesh.{cellsOf}
-use Rattle.mesh.specs.Judged.{lengthRows}
+use Rattle.refusals.specs.Causes.{workRows, eachRows, answerRows, roomRows}
+use Rattle.mesh.specs.Judged.{countRows, wholeRows, sizeRows, nameRows}
 use Rattle.lists.specs.Tables.{Determined}
-use Rattle.refusals.proofs.Rows.{number-rows, exactly}
+use Rattle.refusals.proofs.Rows.{number-rows, in-turn, exactly}
 use Rattle.lists.proofs.Lent.{determined}
 use Rattle.links.specs.Labels.{labelAt}
 use Rattle.links.specs.Walks.{Walk, Share}
 use Rattle.links.proofs.Groups.{same-label}
-use Rattle.groups.specs.Judged.{sizeRows, crossedRows}
+use Rattle.groups.specs.Judged.{crossedRows}
 use Rattle.marked.specs.Used.{usedOf}
 use Rattle.marked.specs.Kept.{numberOf, keptOf}
 use Rattle.keep.specs.Marked.{isInside}
-use Rattle.keep.specs.Step.{needOf, crustRows, coverRows, roomRows, keepCrustRows, keepCoverRows, crustCells, crustDropped, coverCells, coverDropped, keepOf, crustOf, coverOf, KeepDone}
+use Rattle.keep.specs.Step.{cellSizeRows, crustRows, coverRows, resultRows, keepCrustRows, keepCoverRows, crustCells, crustDropped, coverCells, coverDropped, keepOf, crustOf, coverOf, KeepDone}
 use Rattle.marked.specs.declared.Kept.{Kept}
 use Rattle.marked.specs.declared.Kept.the-variants.{Done, Refused, Short, Nothing}
 
@@ -37,9 +38,9 @@ highest-decides C X Q n i e = ap (λ (k : ℕ). not (eqb (getD Q k 0) 0)) e
 
 -- ---- each refusal exactly when
 
-room-number : (F lost p q : List ℕ) → numberOf (keptOf F lost p q) ≡ first (roomRows F p q)
-unfolding keptOf first
-room-number F lost p q = go (ltb (length p / 3) (length (usedOf F))) (ltb (length q / 4) (length F / 4)) (eqb (length F / 4) 0)
+result-number : (F lost p q : List ℕ) → numberOf (keptOf F lost p q) ≡ first (resultRows F p q)
+unfolding keptOf first resultRows roomRows
+result-number F lost p q = go (ltb (length p / 3) (length (usedOf F))) (ltb (length q / 4) (length F / 4)) (eqb (length F / 4) 0)
   where
     go : (s t u : Bool)
         → numberOf (cond s (Short (length (usedOf F)) (length F / 4)) (cond t (Short (length (usedOf F)) (length F / 4)) (cond u Nothing (Done (length (usedOf F)) (length F / 4) (length lost)))))
@@ -50,32 +51,38 @@ room-number F lost p q = go (ltb (length p / 3) (length (usedOf F))) (ltb (lengt
     go false false false = refl
 
 module _ (c : Float) (P C X p q w : List ℕ) where
-  pub crust-number : numberOf (crustOf c P C X p q w) ≡ first (keepCrustRows c P C X (crustCells c P C X) p q w)
-  unfolding keepOf first proper crustRows crossedRows sizeRows lengthRows
+  crust-number : numberOf (crustOf c P C X p q w) ≡ first (keepCrustRows c P C X (crustCells c P C X) p q w)
+  unfolding keepOf proper crustRows cellSizeRows crossedRows sizeRows countRows wholeRows workRows eachRows answerRows nameRows
   crust-number =
-      number-rows numberOf Refused _ (crustRows c (length P) C X (length w) (needOf P C)) (roomRows (crustCells c P C X) p q) refl (λ k. refl)
-      (room-number (crustCells c P C X) (crustDropped c P C X) p q)
+      number-rows numberOf Refused _ (crustRows c (length P) C X (length w)) (resultRows (crustCells c P C X) p q) refl (λ k. refl)
+      (result-number (crustCells c P C X) (crustDropped c P C X) p q)
+
+  pub crust-in-turn : (k : ℕ) → 0 < k → (numberOf (crustOf c P C X p q w) ≡ k) ↔ InTurn k (keepCrustRows c P C X (crustCells c P C X) p q w)
+  crust-in-turn = in-turn (keepCrustRows c P C X (crustCells c P C X) p q w) crust-number
 
   pub crust-exactly : (k : ℕ) → 0 < k
       → (numberOf (crustOf c P C X p q w) ≡ k)
       ↔ ((caused k (keepCrustRows c P C X (crustCells c P C X) p q w) ≡ true) × (lower k (keepCrustRows c P C X (crustCells c P C X) p q w) ≡ false))
-  unfolding rising
+  unfolding rising crustRows cellSizeRows crossedRows sizeRows countRows wholeRows workRows eachRows answerRows nameRows resultRows roomRows
   crust-exactly = exactly (keepCrustRows c P C X (crustCells c P C X) p q w) refl crust-number
 
   pub crust-one : Determined (λ (z : Kept × List ℕ × List ℕ × List ℕ). KeepDone (crustOf c P C X p q w) P C (crustCells c P C X) p q w (z .0) (z .1) (z .2) (z .3))
   crust-one = determined (λ z a i. (a .answer i, a .points i, a .cells i, a .work i))
 
 module _ (c : Float) (P C X Q p q w : List ℕ) where
-  pub cover-number : numberOf (coverOf c P C X Q p q w) ≡ first (keepCoverRows c P C X Q (coverCells c P C X Q) p q w)
-  unfolding keepOf first proper coverRows sizeRows lengthRows
+  cover-number : numberOf (coverOf c P C X Q p q w) ≡ first (keepCoverRows c P C X Q (coverCells c P C X Q) p q w)
+  unfolding keepOf proper coverRows cellSizeRows sizeRows countRows wholeRows workRows eachRows answerRows nameRows
   cover-number =
-      number-rows numberOf Refused _ (coverRows c (length P) C X Q (length w) (needOf P C)) (roomRows (coverCells c P C X Q) p q) refl (λ k. refl)
-      (room-number (coverCells c P C X Q) (coverDropped c P C X Q) p q)
+      number-rows numberOf Refused _ (coverRows c (length P) C X Q (length w)) (resultRows (coverCells c P C X Q) p q) refl (λ k. refl)
+      (result-number (coverCells c P C X Q) (coverDropped c P C X Q) p q)
+
+  pub cover-in-turn : (k : ℕ) → 0 < k → (numberOf (coverOf c P C X Q p q w) ≡ k) ↔ InTurn k (keepCoverRows c P C X Q (coverCells c P C X Q) p q w)
+  cover-in-turn = in-turn (keepCoverRows c P C X Q (coverCells c P C X Q) p q w) cover-number
 
   pub cover-exactly : (k : ℕ) → 0 < k
       → (numberOf (coverOf c P C X Q p q w) ≡ k)
       ↔ ((caused k (keepCoverRows c P C X Q (coverCells c P C X Q) p q w) ≡ true) × (lower k (keepCoverRows c P C X Q (coverCells c P C X Q) p q w) ≡ false))
-  unfolding rising
+  unfolding rising coverRows cellSizeRows sizeRows countRows wholeRows workRows eachRows answerRows nameRows resultRows roomRows
   cover-exactly = exactly (keepCoverRows c P C X Q (coverCells c P C X Q) p q w) refl cover-number
 
   pub cover-one : Determined (λ (z : Kept × List ℕ × List ℕ × List ℕ). KeepDone (coverOf c P C X Q p q w) P C (coverCells c P C X Q) p q w (z .0) (z .1) (z .2) (z .3))

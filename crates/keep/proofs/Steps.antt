@@ -1,77 +1,76 @@
 -- The outcomes of the two steps, one law for each way out. Assumes nothing.
 use mathlib.Core.Path.{_≡_, refl, sym, ap, subst, _∙_}
 use mathlib.Core.Logic.{_≢_}
-use mathlib.Core.Bool.{Bool, true, false, cond, not}
+use mathlib.Core.Bool.{Bool, true, false, cond}
 use mathlib.Core.List.{List, [], _∷_, _++_}
 use Prim.Native.Nat.{ℕ, _+_, _*_, _/_, _≤_, _<_}
 use native.Mathlib.Omega.{arith}
-use borrow.Author.Tests.{not-false, eqb-true}
 use lib.Dec.{eqb, ltb}
 use lib.Ieee.{Float}
-use lib.Ieee.Positive.{positive}
 use lib.ListN.{length, take, drop, replicate, length-append, length-drop}
 use lib.Seq.{length-take-le, length-front, drop-append-add, drop-drop}
-use Rattle.refusals.specs.Rows.{_when_, first, proper, under, unless}
+use Rattle.refusals.specs.Rows.{first, proper, under}
 use Rattle.mesh.specs.Mesh.{pointsOf, cellsOf}
-use Rattle.mesh.specs.Judged.{lengthRows}
-use Rattle.lists.specs.Tables.{allBelow, allAtMost, among, allFrom, on}
-use Rattle.refusals.proofs.Rows.{clear, front-clear, goes-on, unless-none, unless-some, first-under}
+use Rattle.mesh.specs.Judged.{countRows, wholeRows, sizeRows, nameRows}
+use Rattle.mesh.proofs.Unrefused.{sizes-proper, sizes-fit, names-fit, named-fit}
+use Rattle.refusals.specs.Causes.{workRows, eachRows, answerRows}
+use Rattle.refusals.proofs.Causes.{each-fits}
+use Rattle.lists.specs.Tables.{among, allFrom, on}
+use Rattle.refusals.proofs.Rows.{front-clear, rest-clear, unless-none, unless-some, first-under}
 use Rattle.lists.proofs.Lent.{as-lent, as-lent-below}
-use Rattle.groups.specs.Judged.{sizeRows, crossedRows}
-use Rattle.groups.proofs.Judging.{Fitting, sizes-proper, sizes-fit, crossed-fit}
-use Rattle.groups.specs.Settled.{Sized}
+use Rattle.groups.specs.Judged.{crossedRows}
+use Rattle.groups.proofs.Unrefused.{Answered, crossed-fits}
+use Rattle.groups.specs.Parts.{Sized}
 use Rattle.marked.specs.Used.{usedOf}
 use Rattle.marked.specs.Weighed.{Marks}
 use Rattle.marked.specs.Kept.{numberOf, keptOf, KeptAs, KeptMarked}
 use Rattle.keep.specs.Marked.{KeepAsked}
-use Rattle.keep.specs.Step.{needOf, crustRows, coverRows, keepOf, workAfter, KeepDone}
+use Rattle.keep.specs.Step.{needOf, cellSizeRows, crustRows, coverRows, keepOf, workAfter, KeepDone}
 use Rattle.marked.specs.declared.Kept.{Kept}
 use Rattle.marked.specs.declared.Kept.the-variants.{Done, Refused, Short, Nothing}
 
 -- ---- what is known where nothing is refused
 
 pub record CoverFits (P C X Q w : List ℕ) : Type 0 where
-  pub sizes : Fitting (length P) C X (length w) (needOf P C)
+  pub sizes : Answered (length P) C X (length w) 1 2
   pub probes : length Q ≡ cellsOf C
 
-pub crust-fits : (c : Float) (P C X w : List ℕ) → first (crustRows c (length P) C X (length w) (needOf P C)) ≡ 0
-    → Fitting (length P) C X (length w) (needOf P C)
-unfolding crustRows first
-crust-fits c P C X w e = go (positive c) e
-  where
-    go : (b : Bool) → cond (not b) 1 (first (crossedRows (length P) C X (length w) (needOf P C))) ≡ 0 → Fitting (length P) C X (length w) (needOf P C)
-    go true e = crossed-fit (length P) C X (length w) (needOf P C) e
-    go false e = absurd (omega arith)
+size-proper : (c : Float) → proper (cellSizeRows c) ≡ true
+unfolding proper cellSizeRows
+size-proper c = refl
 
-pub cover-fits : (c : Float) (P C X Q w : List ℕ) → first (coverRows c (length P) C X Q (length w) (needOf P C)) ≡ 0 → CoverFits P C X Q w
-unfolding coverRows first
-cover-fits c P C X Q w e = go (positive c) e
-  where
-    go : (b : Bool)
-        → cond (not b) 1 (first (sizeRows (length P) (length C) (length X) (length w) (needOf P C)
-        ++ (5 when not (eqb (length Q) (length C / 4)) ∷ 6 when not (allAtMost 1 X) ∷ 6 when not (allAtMost 1 Q) ∷ 8 when not (allBelow (length P / 3) C) ∷ []))) ≡ 0
-        → CoverFits P C X Q w
-    go false e = absurd (omega arith)
-    go true e =
-        let s : first (sizeRows (length P) (length C) (length X) (length w) (needOf P C)) ≡ 0 =
-        front-clear (sizeRows (length P) (length C) (length X) (length w) (needOf P C)) _ e in
-        let h = clear (5 when not (eqb (length Q) (length C / 4)) ∷ 6 when not (allAtMost 1 X) ∷ 6 when not (allAtMost 1 Q) ∷ 8 when not (allBelow (length P / 3) C) ∷ [])
-        (unfold proper in refl)
-        (sym (goes-on (sizeRows (length P) (length C) (length X) (length w) (needOf P C)) _ (sizes-proper (length P) (length C) (length X) (length w) (needOf P C)) refl s) ∙ e) in
-        record {
-          sizes = sizes-fit (length P) C X (length w) (needOf P C) s (not-false _ (h 3));
-          probes = eqb-true _ _ (not-false _ (h 0));
-        }
+pub crust-fits : (c : Float) (P C X w : List ℕ) → first (crustRows c (length P) C X (length w)) ≡ 0 → Answered (length P) C X (length w) 1 2
+unfolding crustRows
+crust-fits c P C X w e = crossed-fits (length P) C X (length w) 1 2 (rest-clear (cellSizeRows c) _ (size-proper c) e)
+
+pub cover-fits : (c : Float) (P C X Q w : List ℕ) → first (coverRows c (length P) C X Q (length w)) ≡ 0 → CoverFits P C X Q w
+unfolding coverRows proper eachRows answerRows
+cover-fits c P C X Q w e =
+    let sizes = sizeRows (length P) (length C) (length w) 1 2 in
+    let x = eachRows (cellsOf C) (length X) in
+    let q = eachRows (cellsOf C) (length Q) in
+    let names = nameRows (pointsOf P) C in
+    let s : first (sizes ++ (x ++ (q ++ (answerRows X ++ (answerRows Q ++ names))))) ≡ 0 = rest-clear (cellSizeRows c) _ (size-proper c) e in
+    let ex : first (x ++ (q ++ (answerRows X ++ (answerRows Q ++ names)))) ≡ 0 = rest-clear sizes _ (sizes-proper (length P) (length C) (length w) 1 2) s in
+    let eq : first (q ++ (answerRows X ++ (answerRows Q ++ names))) ≡ 0 = rest-clear x _ refl ex in
+    let en : first names ≡ 0 = rest-clear (answerRows Q) names refl (rest-clear (answerRows X) _ refl (rest-clear q _ refl eq)) in
+    record {
+      sizes = record {
+        mesh = named-fit (length P) C (length w) 1 2 (sizes-fit (length P) (length C) (length w) 1 2 (front-clear sizes _ s)) (names-fit (pointsOf P) C en);
+        answers = each-fits (cellsOf C) (length X) (front-clear x _ ex);
+      };
+      probes = each-fits (cellsOf C) (length Q) (front-clear q _ eq);
+    }
 
 -- the front of the work that is lent on
-module _ (P C X w : List ℕ) (f : Fitting (length P) C X (length w) (needOf P C)) where
+module _ (P C X w : List ℕ) (f : Answered (length P) C X (length w) 1 2) where
   pub front-fits : pointsOf P + cellsOf C ≤ length w
-  front-fits = omega (arith, f .work)
+  front-fits = omega (arith, f .mesh .work)
 
   pub marks-front : Marks P C (take (pointsOf P + cellsOf C) w) (pointsOf P)
   marks-front = record {
     points = omega arith;
-    sized = record { cells = f .cells; long = length-take-le (pointsOf P + cellsOf C) w front-fits };
+    sized = record { cells = f .mesh .cells; long = length-take-le (pointsOf P + cellsOf C) w front-fits };
   }
 
   pub keep-front : (Q : List ℕ) → length Q ≡ cellsOf C → KeepAsked P C Q (take (pointsOf P + cellsOf C) w) (pointsOf P)
@@ -83,7 +82,7 @@ module _ (P C X w : List ℕ) (f : Fitting (length P) C X (length w) (needOf P C
     lent-long = length-front w s (pointsOf P + cellsOf C) ls
 
     pub need-fits : needOf P C ≤ length (s ++ drop (pointsOf P + cellsOf C) w)
-    need-fits = omega (arith, f .work, lent-long)
+    need-fits = omega (arith, f .mesh .work, lent-long)
 
     pub work-zero : {z : List ℕ} → z ≡ replicate (length (take (needOf P C) (s ++ drop (pointsOf P + cellsOf C) w))) 0
         → z ++ drop (needOf P C) (s ++ drop (pointsOf P + cellsOf C) w) ≡ replicate (needOf P C) 0 ++ drop (needOf P C) w
@@ -134,10 +133,10 @@ pub least-kept : (P C : List ℕ) (mark : ℕ → Bool) {least l : Float} {p q p
     → KeptMarked P C mark least p q r p′ q′ → KeptMarked P C mark l p q r p′ q′
 least-kept P C mark {p = p} {q = q} {p′ = p′} {q′ = q′} {r = r} e k = subst (λ (x : Float). KeptMarked P C mark x p q r p′ q′) e k
 
-pub crust-low : (c : Float) (P C X w : List ℕ) → first (crustRows c (length P) C X (length w) (needOf P C)) < 9
-unfolding crustRows crossedRows sizeRows lengthRows under
-crust-low c P C X w = first-under 9 (crustRows c (length P) C X (length w) (needOf P C)) (omega arith) refl
+pub crust-low : (c : Float) (P C X w : List ℕ) → first (crustRows c (length P) C X (length w)) < 9
+unfolding crustRows cellSizeRows crossedRows sizeRows countRows wholeRows workRows eachRows answerRows nameRows under
+crust-low c P C X w = first-under 9 (crustRows c (length P) C X (length w)) (omega arith) refl
 
-pub cover-low : (c : Float) (P C X Q w : List ℕ) → first (coverRows c (length P) C X Q (length w) (needOf P C)) < 9
-unfolding coverRows sizeRows lengthRows under
-cover-low c P C X Q w = first-under 9 (coverRows c (length P) C X Q (length w) (needOf P C)) (omega arith) refl
+pub cover-low : (c : Float) (P C X Q w : List ℕ) → first (coverRows c (length P) C X Q (length w)) < 9
+unfolding coverRows cellSizeRows sizeRows countRows wholeRows workRows eachRows answerRows nameRows under
+cover-low c P C X Q w = first-under 9 (coverRows c (length P) C X Q (length w)) (omega arith) refl

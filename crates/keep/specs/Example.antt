@@ -7,7 +7,8 @@ use lib.Ieee.{Float, binary32, ofBits, add, sub, mul, div, neg, lt}
 use lib.ListN.{replicate}
 use Rattle.float32.specs.Operations.{f32}
 use Rattle.refusals.specs.Rows.{first, unless}
-use Rattle.mesh.specs.Judged.{lengthRows}
+use Rattle.refusals.specs.Causes.{workRows, eachRows, answerRows}
+use Rattle.mesh.specs.Judged.{countRows, wholeRows, sizeRows, nameRows}
 use Rattle.lists.specs.Tables.{allBelow, among}
 use Rattle.lists.specs.Runs.{run}
 use Rattle.lists.specs.Appearance.{place, noted}
@@ -15,12 +16,11 @@ use Rattle.lists.specs.Tests.{any}
 use Rattle.links.specs.Labels.{shares, touched, takenOver, addCell, labels, labelAt}
 use Rattle.volume.specs.Cell.{pointOf, cornersOf}
 use Rattle.volume.specs.Volume.{volumeOf, sizeOf, verdictOf, verdictAt}
-use Rattle.groups.specs.Judged.{sizeRows, crossedRows}
 use Rattle.marked.specs.Used.{firstUses, usedOf, renumbered, pointBits, pointsAt}
 use Rattle.marked.specs.Weighed.{shaped, isDropped, shapeAt, lostAt, finalCells, droppedCells}
 use Rattle.marked.specs.Kept.{numberOf, valuesOf, keptOf, pointsAfter, cellsAfter}
 use Rattle.keep.specs.Marked.{crustMark, isInside, coverMark}
-use Rattle.keep.specs.Step.{crustRows, coverRows, keepOf, coverOf, coverCells, workAfter}
+use Rattle.keep.specs.Step.{cellSizeRows, coverRows, keepOf, coverOf, coverCells, workAfter}
 
 -- the cell size, points, cells, crossing and probe answers; the room for points and cells and the work, which hold sevens; and what is
 -- answered: number, values, the cells before compaction, and the three tables after
@@ -84,5 +84,5 @@ asked k =
     (pointsAfter a (k .points) F p) (cellsAfter a F q) (workAfter a (k .points) (k .cells) w)
 
 examples : map asked table ≡ table
-unfolding ofBits add sub mul div neg lt first unless lengthRows allBelow among run place noted any shares touched takenOver addCell labels labelAt pointOf cornersOf volumeOf sizeOf verdictOf verdictAt sizeRows crossedRows firstUses usedOf renumbered pointBits pointsAt shaped isDropped shapeAt lostAt finalCells droppedCells keptOf crustMark isInside coverMark crustRows coverRows keepOf
+unfolding ofBits add sub mul div neg lt first unless countRows wholeRows workRows sizeRows eachRows answerRows nameRows allBelow among run place noted any shares touched takenOver addCell labels labelAt pointOf cornersOf volumeOf sizeOf verdictOf verdictAt firstUses usedOf renumbered pointBits pointsAt shaped isDropped shapeAt lostAt finalCells droppedCells keptOf crustMark isInside coverMark cellSizeRows coverRows keepOf
 examples = refl

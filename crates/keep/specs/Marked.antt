@@ -7,7 +7,7 @@ use lib.Dec.{eqb}
 use lib.ListN.{length, getD, drop}
 use Rattle.mesh.specs.Mesh.{cellsOf}
 use Rattle.links.specs.Labels.{labelAt}
-use Rattle.groups.specs.Settled.{Sized, Labelled}
+use Rattle.groups.specs.Parts.{Sized, Labelled}
 use Rattle.marked.specs.Weighed.{markedIn}
 
 -- Crust keeps the cells that are crossed

@@ -1,18 +1,20 @@
 -- The two steps as document 01 has them: what is refused and why, what is answered, and what the lent tables hold after. P is the table of
 -- points, C that of cells, X that of crossing answers, Q that of probe answers, p and q the tables for points and cells kept, w the work.
 use mathlib.Core.Path.{_≡_}
-use mathlib.Core.Bool.{Bool, not}
+use mathlib.Core.Bool.{not}
 use mathlib.Core.List.{List, [], _∷_, _++_}
-use Prim.Native.Nat.{ℕ, _+_, _*_, _/_, _%_}
-use lib.Dec.{eqb, ltb}
+use Prim.Native.Nat.{ℕ, _+_, _*_, _/_}
+use lib.Dec.{eqb}
 use lib.Ieee.{Float}
 use lib.Ieee.Positive.{positive}
 use lib.ListN.{length}
 use Rattle.refusals.specs.Rows.{Row, _when_, first, unless}
-use Rattle.mesh.specs.Mesh.{most, pointsOf, cellsOf}
-use Rattle.lists.specs.Tables.{allBelow, allAtMost, zeroed, on}
+use Rattle.refusals.specs.Causes.{eachRows, answerRows, roomRows}
+use Rattle.mesh.specs.Mesh.{pointsOf, cellsOf}
+use Rattle.mesh.specs.Judged.{sizeRows, nameRows}
+use Rattle.lists.specs.Tables.{zeroed, on}
 use Rattle.volume.specs.Volume.{leastOf}
-use Rattle.groups.specs.Judged.{sizeRows, crossedRows}
+use Rattle.groups.specs.Judged.{crossedRows}
 use Rattle.marked.specs.Used.{usedOf}
 use Rattle.marked.specs.Weighed.{finalCells, droppedCells}
 use Rattle.marked.specs.Kept.{numberOf, keptOf, pointsAfter, cellsAfter}
@@ -26,54 +28,34 @@ needOf P C = pointsOf P + cellsOf C + pointsOf P
 
 -- ---- the refusals in their order: p is the length of the table of points, room that of the work
 
-unfoldable pub crustRows : Float → ℕ → List ℕ → List ℕ → ℕ → ℕ → List Row
-crustRows c p C X room need = 1 when not (positive c) ∷ crossedRows p C X room need
+-- the cell size is not one
+unfoldable pub cellSizeRows : Float → List Row
+cellSizeRows c = 1 when not (positive c) ∷ []
 
-unfoldable pub coverRows : Float → ℕ → List ℕ → List ℕ → List ℕ → ℕ → ℕ → List Row
-coverRows c p C X Q room need =
-    1 when not (positive c)
-    ∷ sizeRows p (length C) (length X) room need
-    ++ (5 when not (eqb (length Q) (length C / 4))
-    ∷ 6 when not (allAtMost 1 X)
-    ∷ 6 when not (allAtMost 1 Q)
-    ∷ 8 when not (allBelow (p / 3) C)
-    ∷ [])
+unfoldable pub crustRows : Float → ℕ → List ℕ → List ℕ → ℕ → List Row
+crustRows c p C X room = cellSizeRows c ++ crossedRows p C X room 1 2
 
--- the same as one flat table, with those that need the work: F are the cells that stay, before compaction
-abbrev pub roomRows : List ℕ → List ℕ → List ℕ → List Row
-roomRows F p q =
-    9 when ltb (length p / 3) (length (usedOf F))
-    ∷ 9 when ltb (length q / 4) (length F / 4)
-    ∷ 10 when eqb (length F / 4) 0
-    ∷ []
+-- with a probe table beside that of crossing answers
+unfoldable pub coverRows : Float → ℕ → List ℕ → List ℕ → List ℕ → ℕ → List Row
+coverRows c p C X Q room =
+    cellSizeRows c
+    ++ (sizeRows p (length C) room 1 2
+    ++ (eachRows (cellsOf C) (length X)
+    ++ (eachRows (cellsOf C) (length Q)
+    ++ (answerRows X
+    ++ (answerRows Q
+    ++ nameRows (p / 3) C)))))
+
+-- those that need the work: F are the cells that stay, before compaction
+unfoldable pub resultRows : List ℕ → List ℕ → List ℕ → List Row
+resultRows F p q =
+    roomRows (length p / 3) (length (usedOf F)) ++ (roomRows (length q / 4) (length F / 4) ++ (10 when eqb (length F / 4) 0 ∷ []))
 
 abbrev pub keepCrustRows : Float → List ℕ → List ℕ → List ℕ → List ℕ → List ℕ → List ℕ → List ℕ → List Row
-keepCrustRows c P C X F p q w =
-    1 when not (positive c)
-    ∷ 4 when ltb most (pointsOf P)
-    ∷ 4 when ltb most (cellsOf C)
-    ∷ 5 when not (eqb (length P % 3) 0)
-    ∷ 5 when not (eqb (length C % 4) 0)
-    ∷ 5 when not (eqb (length X) (cellsOf C))
-    ∷ 5 when ltb (length w) (needOf P C)
-    ∷ 6 when not (allAtMost 1 X)
-    ∷ 8 when not (allBelow (pointsOf P) C)
-    ∷ roomRows F p q
+keepCrustRows c P C X F p q w = crustRows c (length P) C X (length w) ++ resultRows F p q
 
 abbrev pub keepCoverRows : Float → List ℕ → List ℕ → List ℕ → List ℕ → List ℕ → List ℕ → List ℕ → List ℕ → List Row
-keepCoverRows c P C X Q F p q w =
-    1 when not (positive c)
-    ∷ 4 when ltb most (pointsOf P)
-    ∷ 4 when ltb most (cellsOf C)
-    ∷ 5 when not (eqb (length P % 3) 0)
-    ∷ 5 when not (eqb (length C % 4) 0)
-    ∷ 5 when not (eqb (length X) (cellsOf C))
-    ∷ 5 when ltb (length w) (needOf P C)
-    ∷ 5 when not (eqb (length Q) (cellsOf C))
-    ∷ 6 when not (allAtMost 1 X)
-    ∷ 6 when not (allAtMost 1 Q)
-    ∷ 8 when not (allBelow (pointsOf P) C)
-    ∷ roomRows F p q
+keepCoverRows c P C X Q F p q w = coverRows c (length P) C X Q (length w) ++ resultRows F p q
 
 -- ---- the outcome
 
@@ -95,11 +77,11 @@ unfoldable pub keepOf : ℕ → List ℕ → List ℕ → List ℕ → List ℕ 
 keepOf number F lost p q = unless number kept.Refused (keptOf F lost p q)
 
 abbrev pub crustOf : Float → List ℕ → List ℕ → List ℕ → List ℕ → List ℕ → List ℕ → Kept
-crustOf c P C X p q w = keepOf (first (crustRows c (length P) C X (length w) (needOf P C))) (crustCells c P C X) (crustDropped c P C X) p q
+crustOf c P C X p q w = keepOf (first (crustRows c (length P) C X (length w))) (crustCells c P C X) (crustDropped c P C X) p q
 
 abbrev pub coverOf : Float → List ℕ → List ℕ → List ℕ → List ℕ → List ℕ → List ℕ → List ℕ → Kept
 coverOf c P C X Q p q w =
-    keepOf (first (coverRows c (length P) C X Q (length w) (needOf P C))) (coverCells c P C X Q) (coverDropped c P C X Q) p q
+    keepOf (first (coverRows c (length P) C X Q (length w))) (coverCells c P C X Q) (coverDropped c P C X Q) p q
 
 -- the work after: its entries zero on an answer, on 9 and on 10, else as lent
 abbrev pub workAfter : Kept → List ℕ → List ℕ → List ℕ → List ℕ

@@ -4,28 +4,21 @@ ghost use lib.ListN.{length};
 ghost use Rattle.lists.specs.Tests.{bit};
 ghost use Rattle.refusals.specs.Rows.{first};
 ghost use Rattle.mesh.specs.Mesh.{cellsOf};
-ghost use Rattle.groups.specs.Settled.{Sized, Labelled};
+ghost use Rattle.groups.specs.Parts.{Sized, Labelled};
 ghost use Rattle.marked.specs.Kept.{KeptMarked};
 ghost use Rattle.marked.specs.Weighed.{Marks};
 ghost use Rattle.keep.specs.Marked.{crustMark, coverMark, coverIn, ProbeAsked, CoverAsked, MarksOf, KeepAsked};
 ghost use Rattle.keep.specs.Step.{crustRows, coverRows, crustOf, crustCells, coverOf, coverCells, KeepDone};
 use marked::Kept;
 
-// The number that Crust is refused with, where the work is to have `need` entries: 1, 4, 5, 6, 8, or 0.
-fn judge_crust(
-    c: f32,
-    points: usize,
-    cells: &[u32],
-    crossing: &[u8],
-    room: usize,
-    need: usize,
-) -> u32
-    ensures { λ r. ⌜ r ≡ first (crustRows c points (now (cells .entry)) (now (crossing .entry)) room need) ⌝ }
+// The number that Crust is refused with, where `points` is the length of the table of points and `room` that of the work: 1, 4, 5, 6, 8, or 0.
+fn judge_crust(c: f32, points: usize, cells: &[u32], crossing: &[u8], room: usize) -> u32
+    ensures { λ r. ⌜ r ≡ first (crustRows c points (now (cells .entry)) (now (crossing .entry)) room) ⌝ }
 {
     if !float32::is_size(c) {
         return 1;
     }
-    groups::judge(points, cells, crossing, room, need)
+    groups::judge(points, cells, crossing, room, 1, 2)
 }
 
 // The same for Cover, with a probe table.
@@ -36,16 +29,18 @@ fn judge_cover(
     crossing: &[u8],
     probe: &[u8],
     room: usize,
-    need: usize,
 ) -> u32
-    ensures { λ r. ⌜ r ≡ first (coverRows c points (now (cells .entry)) (now (crossing .entry)) (now (probe .entry)) room need) ⌝ }
+    ensures { λ r. ⌜ r ≡ first (coverRows c points (now (cells .entry)) (now (crossing .entry)) (now (probe .entry)) room) ⌝ }
 {
     if !float32::is_size(c) {
         return 1;
     }
-    let number = groups::judge_sizes(points, cells.len(), crossing.len(), room, need);
+    let number = mesh::judge_sizes(points, cells.len(), room, 1, 2);
     if number != 0 {
         return number;
+    }
+    if crossing.len() != cells.len() / 4 {
+        return 5;
     }
     if probe.len() != cells.len() / 4 {
         return 5;
@@ -56,10 +51,7 @@ fn judge_cover(
     if !lists::all_at_most(probe, 1) {
         return 6;
     }
-    if !lists::all_below(cells, (points / 3) as u32) {
-        return 8;
-    }
-    0
+    mesh::judge_names(points, cells)
 }
 
 // 1 where Crust keeps the cell i: it is crossed.
@@ -173,7 +165,7 @@ pub fn keep_cover(
     let n = points.len() / 3;
     let front = n + cells.len() / 4;
     let need = front + n;
-    let number = judge_cover(c, points.len(), cells, crossing, probe, work.len(), need);
+    let number = judge_cover(c, points.len(), cells, crossing, probe, work.len());
     if number != 0 {
         return Kept::Refused(number);
     }
@@ -208,7 +200,7 @@ pub fn keep_crust(
     let n = points.len() / 3;
     let front = n + cells.len() / 4;
     let need = front + n;
-    let number = judge_crust(c, points.len(), cells, crossing, work.len(), need);
+    let number = judge_crust(c, points.len(), cells, crossing, work.len());
     if number != 0 {
         return Kept::Refused(number);
     }

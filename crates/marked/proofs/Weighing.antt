@@ -19,7 +19,7 @@ use Rattle.lists.proofs.Appearing.{table-none}
 use Rattle.lists.proofs.Running.{run-last}
 use Rattle.volume.specs.Cell.{CellIn}
 use Rattle.volume.specs.Volume.{verdictAt}
-use Rattle.groups.specs.Settled.{Sized}
+use Rattle.groups.specs.Parts.{Sized}
 use Rattle.marked.specs.Used.{firstUses, usedOf, CornersAsked, CornersNoted}
 use Rattle.marked.specs.Weighed.{shaped, isDropped, shapeAt, lostAt, finalCells, droppedCells, markedIn, codeOf, codeAt, Marks, StayAsked, WeighAsked, WeighedAs, WeighedAt, Tallied}
 use Rattle.volume.specs.declared.Verdict.{Verdict}

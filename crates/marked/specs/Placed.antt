@@ -11,7 +11,7 @@ use lib.Seq.{sets}
 use Rattle.lists.specs.Appearance.{place, Table}
 use Rattle.lists.specs.Runs.{run, Stored}
 use Rattle.mesh.specs.Mesh.{cellsOf, most}
-use Rattle.groups.specs.Settled.{Sized}
+use Rattle.groups.specs.Parts.{Sized}
 use Rattle.marked.specs.Used.{pointBits, pointsAt}
 
 -- the cell i by what stands in its entry

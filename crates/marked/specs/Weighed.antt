@@ -11,7 +11,7 @@ use Rattle.lists.specs.Appearance.{place, Table}
 use Rattle.lists.specs.Runs.{run}
 use Rattle.mesh.specs.Mesh.{cellsOf}
 use Rattle.volume.specs.Volume.{verdictAt}
-use Rattle.groups.specs.Settled.{Sized}
+use Rattle.groups.specs.Parts.{Sized}
 use Rattle.marked.specs.Used.{firstUses, usedOf, CornersAsked}
 use Rattle.volume.specs.declared.Verdict.{Verdict}
 use Rattle.volume.specs.declared.Verdict.the-variants.{Kept, Exchanged, Dropped}

@@ -1,2 +1,2 @@
 -- Laws of meshes that are not refused.
-pub mod Sizes
+pub mod Unrefused

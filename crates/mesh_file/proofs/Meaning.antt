@@ -3,21 +3,23 @@ use mathlib.Core.Path.{_≡_, refl, sym, ap, ap₂, _∙_}
 use mathlib.Core.Logic.{_⊎_, inl, inr, _≢_}
 use mathlib.Core.Bool.{Bool, true, false, cond, not, _||_}
 use mathlib.Core.List.{List, [], _∷_}
-use Prim.Native.Nat.{ℕ, _+_, _*_, _/_, _%_, _≤_}
+use Prim.Native.Nat.{ℕ, _+_, _*_, _/_, _≤_}
 use native.Mathlib.Omega.{arith}
-use borrow.Author.Tests.{le-ltb, eqb-true, ltb-false, not-false}
+use borrow.Author.Tests.{le-ltb}
 use lib.Dec.{ltb}
 use lib.ListN.{length, take}
 use lib.Seq.{take-at}
-use Rattle.refusals.specs.Rows.{Row, _when_, first, proper}
+use Rattle.refusals.specs.Rows.{Row, _when_, first}
 use Rattle.mesh.specs.Mesh.{most, pointsOf, cellsOf}
+use Rattle.mesh.specs.Judged.{meshRows}
+use Rattle.mesh.proofs.Unrefused.{mesh-fits}
 use Rattle.lists.specs.Tables.{allBelow, front, on, Determined}
-use Rattle.refusals.proofs.Rows.{clear, exactly, number-rows, unless-none, unless-some}
+use Rattle.refusals.proofs.Rows.{front-clear, exactly, number-rows, unless-none, unless-some}
 use Rattle.lists.proofs.Cases.{eqOr}
-use Rattle.lists.proofs.Lent.{as-lent, as-new, determined}
+use Rattle.lists.proofs.Lent.{all-below, as-lent, as-new, determined}
 use Rattle.words.proofs.Words.{length-words, words-small}
 use Rattle.mesh_file.specs.File.{encode, endOf, second, third, end, pointCount, cellCount, pointsIn, cellsIn}
-use Rattle.mesh_file.specs.Writer.{writeRows, writtenNumber, writtenOf, fileAfter}
+use Rattle.mesh_file.specs.Writer.{writtenNumber, writtenOf, fileAfter}
 use Rattle.mesh_file.specs.Write.{bytesFor}
 use Rattle.mesh_file.specs.Read.{rightNumbers, readRows, sectionRows, fileRows, shortOf, loadedNumber, loadedOf, pointsAfter, cellsAfter, ReadDone}
 use Rattle.mesh_file.specs.declared.Written.the-variants as written
@@ -127,17 +129,14 @@ files-differ P C P′ C′ m m′ e = (
 -- what a writer takes, of any bits, is a mesh
 module _ (n : ℕ) (P C o w : List ℕ) (bits : allBelow 4294967296 P ≡ true) (z : writtenNumber (writtenOf n P C o w) ≡ 0) where
   pub taken : Mesh P C
-  unfolding first proper
   taken =
-      let h = clear (writeRows n P C o w) refl (sym (write-number-is n P C o w) ∙ z) in
-      let p : length P % 3 ≡ 0 = eqb-true _ _ (not-false _ (h 2)) in
-      let c : length C % 4 ≡ 0 = eqb-true _ _ (not-false _ (h 3)) in
+      let f = mesh-fits (length P) C (length w) 0 2 (front-clear (meshRows (length P) C (length w) 0 2) _ (sym (write-number-is n P C o w) ∙ z)) in
       record {
-        points = omega arith;
-        cells = omega arith;
-        few-points = ltb-false _ _ (h 0);
-        few-cells = ltb-false _ _ (h 1);
-        names = not-false _ (h 5);
+        points = f .points;
+        cells = f .cells .whole;
+        few-points = f .cells .small;
+        few-cells = f .cells .few;
+        names = all-below (pointsOf P) C (f .cells .names);
         bits = bits;
       }
 

@@ -18,7 +18,8 @@ use Rattle.lists.proofs.Lent.{below-at, as-lent, as-new, as-lent-below}
 use Rattle.lists.proofs.Listing.{same-length}
 use Rattle.words.specs.Words.{wordsAt, spanOf}
 use Rattle.words.proofs.Words.{length-words}
-use Rattle.components.specs.Numbers.{componentNumbers, Fits}
+use Rattle.components.specs.Parts.{Fits}
+use Rattle.components.specs.Numbers.{componentNumbers}
 use Rattle.file_components.specs.Stored.{Told}
 use Rattle.components.proofs.Patterns.{length-components}
 use Rattle.file_components.proofs.Comparing.{cells-in}

@@ -2,40 +2,32 @@
 use mathlib.Core.Path.{_≡_, refl, sym, ap, _∙_}
 use mathlib.Core.Logic.{_≢_, _↔_}
 use mathlib.Core.Bool.{Bool, true, false, cond}
-use mathlib.Core.List.{List, [], _∷_, _++_}
-use Prim.Native.Nat.{ℕ, zero, suc, _*_, _/_, _%_, _≤_, _<_}
+use mathlib.Core.List.{List, [], _++_}
+use Prim.Native.Nat.{ℕ, zero, suc, _*_, _≤_, _<_}
 use native.Mathlib.Omega.{arith}
-use borrow.Author.Tests.{lt-ltb, le-ltb, eqb-true, not-false}
+use borrow.Author.Tests.{lt-ltb, le-ltb}
 use lib.Dec.{ltb}
 use lib.ListN.{length, take, drop, replicate}
 use lib.Seq.{length-take-le}
-use Rattle.refusals.specs.Rows.{_when_, first, proper, rising, caused, lower, unless}
+use Rattle.refusals.specs.Rows.{first, rising, caused, lower, unless}
+use Rattle.refusals.specs.Causes.{workRows, roomRows}
 use Rattle.mesh.specs.Mesh.{pointsOf, cellsOf}
-use Rattle.mesh.specs.Judged.{lengthRows}
+use Rattle.mesh.specs.Judged.{countRows, wholeRows, sizeRows, nameRows, meshRows}
+use Rattle.mesh.proofs.Unrefused.{mesh-proper, mesh-fits, points-work}
 use Rattle.lists.specs.Tables.{Determined}
-use Rattle.refusals.proofs.Rows.{clear, exactly, number-rows, unless-none, unless-some}
+use Rattle.refusals.proofs.Rows.{exactly, number-rows, unless-none, unless-some}
 use Rattle.lists.proofs.Lent.{as-lent, as-new, determined}
-use Rattle.components.specs.Step.{meshRows}
-use Rattle.components.proofs.Steps.{fitting, asks}
-use Rattle.components.proofs.Meaning.{mesh-proper}
+use Rattle.components.proofs.WaysOut.{asks}
 use Rattle.mesh_file.specs.Writer.{writeRows, writtenNumber, writtenOf, fileAfter, Writes, Storable, Placed}
 use Rattle.mesh_file.specs.declared.Written.{Written}
 use Rattle.mesh_file.specs.declared.Written.the-variants.{Done, Refused, Short}
 
--- the points of a mesh that is not refused are whole
-pub whole-points : (p : ℕ) (C : List ℕ) (room : ℕ) → first (meshRows p C room) ≡ 0 → p ≡ 3 * (p / 3)
-unfolding meshRows lengthRows first proper
-whole-points p C room e =
-    let h = clear (meshRows p C room) refl e in
-    let q : p % 3 ≡ 0 = eqb-true _ _ (not-false _ (h 2)) in
-    omega arith
-
 module _ (n : ℕ) (P C o w : List ℕ) where
   -- each refusal exactly when, the lowest first
   pub write-number-is : writtenNumber (writtenOf n P C o w) ≡ first (writeRows n P C o w)
-  unfolding writtenOf first meshRows lengthRows
+  unfolding writtenOf first roomRows
   write-number-is =
-      number-rows writtenNumber Refused _ (meshRows (length P) C (length w)) (9 when ltb (length o) n ∷ []) (mesh-proper (length P) C (length w)) (λ k. refl)
+      number-rows writtenNumber Refused _ (meshRows (length P) C (length w) 0 2) (roomRows (length o) n) (mesh-proper (length P) C (length w) 0 2) (λ k. refl)
       (last (ltb (length o) n))
     where
       last : (t : Bool) → writtenNumber (cond t (Short n) (Done n)) ≡ cond t 9 0
@@ -43,7 +35,7 @@ module _ (n : ℕ) (P C o w : List ℕ) where
       last false = refl
 
   rise : rising 1 (writeRows n P C o w) ≡ true
-  unfolding rising
+  unfolding rising meshRows sizeRows countRows wholeRows workRows nameRows roomRows
   rise = refl
 
   pub write-exactly : (k : ℕ) → 0 < k
@@ -51,13 +43,13 @@ module _ (n : ℕ) (P C o w : List ℕ) where
   write-exactly = exactly (writeRows n P C o w) rise write-number-is
 
   -- with room a mesh that is not refused is written, and an answer carries the bytes of its file
-  pub answers : first (meshRows (length P) C (length w)) ≡ 0 → n ≤ length o → writtenOf n P C o w ≡ Done n
+  pub answers : first (meshRows (length P) C (length w) 0 2) ≡ 0 → n ≤ length o → writtenOf n P C o w ≡ Done n
   unfolding writtenOf
   answers z h = unless-none _ Refused _ z ∙ rw (le-ltb _ _ h) refl
 
   pub done-bytes : {bytes : ℕ} → writtenOf n P C o w ≡ Done bytes → bytes ≡ n
   unfolding writtenOf unless
-  done-bytes {bytes} = go (first (meshRows (length P) C (length w))) (ltb (length o) n)
+  done-bytes {bytes} = go (first (meshRows (length P) C (length w) 0 2)) (ltb (length o) n)
     where
       go : (k : ℕ) (t : Bool) → unless k Refused (cond t (Short n) (Done n)) ≡ Done bytes → bytes ≡ n
       go zero false e = cc
@@ -65,13 +57,13 @@ module _ (n : ℕ) (P C o w : List ℕ) where
       go (suc k) t e = cc
 
   -- the parts that are lent on
-  pub storable : first (meshRows (length P) C (length w)) ≡ 0 → {m : ℕ} → m ≡ n → m ≤ length o → Storable n P C (take m o) (take (2 * pointsOf P) w)
+  pub storable : first (meshRows (length P) C (length w) 0 2) ≡ 0 → {m : ℕ} → m ≡ n → m ≤ length o → Storable n P C (take m o) (take (2 * pointsOf P) w)
   storable z {m} e h =
-      let f = fitting (length P) C (length w) z in
+      let f = mesh-fits (length P) C (length w) 0 2 z in
       record {
-        whole = whole-points (length P) C (length w) z;
+        whole = f .points;
         fits = asks (length P) C w f;
-        points = length-take-le (2 * pointsOf P) w (f .work);
+        points = length-take-le (2 * pointsOf P) w (points-work (length P) C (length w) 2 f);
         long = length-take-le m o h ∙ e;
       }
 
@@ -86,13 +78,13 @@ module _ (n : ℕ) (f P C o w : List ℕ) where
 
   -- ---- the ways out
 
-  pub refused : {r : ℕ} → r ≡ first (meshRows (length P) C (length w)) → r ≢ 0 → Writes n f P C o w (Refused r) o w
+  pub refused : {r : ℕ} → r ≡ first (meshRows (length P) C (length w) 0 2) → r ≢ 0 → Writes n f P C o w (Refused r) o w
   unfolding writtenOf
   refused {r} e d =
       let a : writtenOf n P C o w ≡ Refused r = rw (← e) (unless-some r Refused _ d) in
       record { answer = sym a; file = rw a (sym (as-lent r _ o d)); work = rw a (sym (as-lent r _ w d)) }
 
-  module _ (z : first (meshRows (length P) C (length w)) ≡ 0) where
+  module _ (z : first (meshRows (length P) C (length w) 0 2) ≡ 0) where
     pub short : {m : ℕ} → m ≡ n → length o < m → Writes n f P C o w (Short m) o w
     unfolding writtenOf
     short {m} e h =
@@ -104,6 +96,6 @@ module _ (n : ℕ) (f P C o w : List ℕ) where
     unfolding writtenOf
     done {m} {o′} {w′} e h p =
         let a : writtenOf n P C o w ≡ Done m = unless-none _ Refused _ z ∙ rw (← e, le-ltb _ _ h) refl in
-        let g = fitting (length P) C (length w) z in
-        let zeros : w′ ≡ replicate (2 * pointsOf P) 0 = p .zero ∙ ap (λ (k : ℕ). replicate k 0) (length-take-le (2 * pointsOf P) w (g .work)) in
+        let g = points-work (length P) C (length w) 2 (mesh-fits (length P) C (length w) 0 2 z) in
+        let zeros : w′ ≡ replicate (2 * pointsOf P) 0 = p .zero ∙ ap (λ (k : ℕ). replicate k 0) (length-take-le (2 * pointsOf P) w g) in
         record { answer = sym a; file = rw (a, p .file, e) (sym (as-new [] _ o)); work = rw (a, zeros) (sym (as-new [] _ w)) }

@@ -8,7 +8,8 @@ use lib.ListN.{length, replicate}
 use Rattle.refusals.specs.Rows.{Row, _when_, first, unless}
 use Rattle.mesh.specs.Mesh.{most}
 use Rattle.lists.specs.Tables.{allBelow, same, front, zeroed, on}
-use Rattle.components.specs.Numbers.{componentNumbers, Fits}
+use Rattle.components.specs.Parts.{Fits}
+use Rattle.components.specs.Numbers.{componentNumbers}
 use Rattle.mesh_file.specs.File.{countAt, endOf, cutAt, Standing, second, third, end, pointCount, cellCount, pointsIn, cellsIn, numbersIn}
 use Rattle.mesh_file.specs.declared.Loaded.{Loaded}
 use Rattle.mesh_file.specs.declared.Loaded.the-variants as loaded

@@ -1,30 +1,23 @@
 -- A writer of meshes, whatever its format, as document 01 has it: n are the bytes that the file of the mesh takes, f is the file. P is the table of
 -- points, C that of cells, o the file's table and w the work table, as lent.
 use mathlib.Core.Path.{_≡_}
-use mathlib.Core.Bool.{cond, not}
-use mathlib.Core.List.{List, [], _∷_}
-use Prim.Native.Nat.{ℕ, _*_, _%_}
-use lib.Dec.{eqb, ltb}
+use mathlib.Core.Bool.{cond}
+use mathlib.Core.List.{List, [], _∷_, _++_}
+use Prim.Native.Nat.{ℕ, _*_}
+use lib.Dec.{ltb}
 use lib.ListN.{length, replicate}
-use Rattle.refusals.specs.Rows.{Row, _when_, first, unless}
-use Rattle.mesh.specs.Mesh.{most, pointsOf, cellsOf}
-use Rattle.lists.specs.Tables.{allBelow, front, zeroed, on}
-use Rattle.components.specs.Numbers.{Fits}
-use Rattle.components.specs.Step.{meshRows}
+use Rattle.refusals.specs.Rows.{Row, first, unless}
+use Rattle.refusals.specs.Causes.{roomRows}
+use Rattle.mesh.specs.Mesh.{pointsOf, cellsOf}
+use Rattle.mesh.specs.Judged.{meshRows}
+use Rattle.lists.specs.Tables.{front, zeroed, on}
+use Rattle.components.specs.Parts.{Fits}
 use Rattle.mesh_file.specs.declared.Written.{Written}
 use Rattle.mesh_file.specs.declared.Written.the-variants as written
 
--- the refusals with their causes, the lowest number first
+-- the refusals with their causes, in their order: those of the mesh, and then no room for the file
 abbrev pub writeRows : ℕ → List ℕ → List ℕ → List ℕ → List ℕ → List Row
-writeRows n P C o w =
-    4 when ltb most (pointsOf P)
-    ∷ 4 when ltb most (cellsOf C)
-    ∷ 5 when not (eqb (length P % 3) 0)
-    ∷ 5 when not (eqb (length C % 4) 0)
-    ∷ 5 when ltb (length w) (2 * pointsOf P)
-    ∷ 8 when not (allBelow (pointsOf P) C)
-    ∷ 9 when ltb (length o) n
-    ∷ []
+writeRows n P C o w = meshRows (length P) C (length w) 0 2 ++ roomRows (length o) n
 
 -- document 01's number and values of each answer
 abbrev pub writtenNumber : Written → ℕ
@@ -39,7 +32,7 @@ writtenValues (written.Short bytes) = bytes ∷ []
 
 unfoldable pub writtenOf : ℕ → List ℕ → List ℕ → List ℕ → List ℕ → Written
 writtenOf n P C o w =
-    unless (first (meshRows (length P) C (length w))) written.Refused (cond (ltb (length o) n) (written.Short n) (written.Done n))
+    unless (first (meshRows (length P) C (length w) 0 2)) written.Refused (cond (ltb (length o) n) (written.Short n) (written.Done n))
 
 -- the file's table after: the file in front on an answer, else as lent
 abbrev pub fileAfter : ℕ → List ℕ → List ℕ → List ℕ → List ℕ → List ℕ → List ℕ

@@ -1,2 +1,4 @@
--- Laws of the refusals in their order.
+-- Laws of the refusals in their order, of the causes that steps share, and of the outcome of a step that counts.
 pub mod Rows
+pub mod Causes
+pub mod Counting

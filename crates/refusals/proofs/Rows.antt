@@ -43,6 +43,10 @@ front-clear a b e = go (eqOr (first a) 0)
     go (inl z) = z
     go (inr d) = stops a b refl d ∙ e
 
+-- and where the front is proper, none is in the rest
+pub rest-clear : (a b : List Row) → proper a ≡ true → first (a ++ b) ≡ 0 → first b ≡ 0
+rest-clear a b h e = sym (goes-on a b h refl (front-clear a b e)) ∙ e
+
 -- ---- exactly when
 
 found : (k : ℕ) (l : List Row) → 0 < k → first l ≡ k → InTurn k l
@@ -159,3 +163,12 @@ number-rows number R a rows more h n e = go (eqOr (first rows) 0)
     go : (first rows ≡ 0) ⊎ (first rows ≢ 0) → number (unless (first rows) R a) ≡ first (rows ++ more)
     go (inl z) = ap number (unless-none (first rows) R a z) ∙ e ∙ sym (goes-on rows more h refl z)
     go (inr d) = ap number (unless-some (first rows) R a d) ∙ n (first rows) ∙ stops rows more refl d
+
+-- and where nothing follows them that refuses
+pub number-alone : {A : Type 0} (number : A → ℕ) (R : ℕ → A) (a : A) (rows : List Row) → ((k : ℕ) → number (R k) ≡ k) → number a ≡ 0
+    → number (unless (first rows) R a) ≡ first rows
+number-alone number R a rows n e = go (eqOr (first rows) 0)
+  where
+    go : (first rows ≡ 0) ⊎ (first rows ≢ 0) → number (unless (first rows) R a) ≡ first rows
+    go (inl z) = ap number (unless-none (first rows) R a z) ∙ e ∙ sym z
+    go (inr d) = ap number (unless-some (first rows) R a d) ∙ n (first rows)

@@ -1,3 +1,4 @@
--- Refusals in their order, and the outcome of a step that counts.
+-- Refusals in their order, causes that steps share, and the outcome of a step that counts.
 pub mod Rows
+pub mod Causes
 pub mod Counted

@@ -1,5 +1,5 @@
 -- Laws that the proofs of representatives share.
 pub mod Listing
-pub mod Steps
+pub mod WaysOut
 pub mod Passing
-pub mod Meaning
+pub mod Theorems

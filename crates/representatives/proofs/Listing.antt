@@ -16,8 +16,9 @@ use Rattle.lists.proofs.Parts.{sets-whole}
 use Rattle.lists.proofs.Running.{run-same, run-last, run-room, stored-both, stored-none}
 use Rattle.links.specs.Labels.{labelAt}
 use Rattle.volume.specs.Cell.{CellIn}
-use Rattle.groups.specs.Settled.{Labelled}
-use Rattle.representatives.specs.Highest.{isHighest, representativesOf, centroidBits, centroidsOf, isLast, Readable, RoomFor, Storable, ListedAt, Storing, Listed}
+use Rattle.groups.specs.Parts.{Labelled}
+use Rattle.representatives.specs.Parts.{isLast, Readable, RoomFor, Storable, ListedAt, Storing, Listed}
+use Rattle.representatives.specs.Highest.{isHighest, representativesOf, centroidBits, centroidsOf}
 
 -- ---- the last cell of a group is its highest
 

@@ -5,15 +5,17 @@ use Prim.Native.Nat.{ℕ}
 use lib.Ieee.{binary32, ofBits, toBits, add, div}
 use lib.ListN.{replicate}
 use Rattle.refusals.specs.Rows.{first, unless}
-use Rattle.mesh.specs.Judged.{lengthRows}
+use Rattle.refusals.specs.Causes.{workRows, eachRows, answerRows}
+use Rattle.mesh.specs.Judged.{countRows, wholeRows, sizeRows, nameRows}
 use Rattle.lists.specs.Tables.{allBelow, among}
 use Rattle.lists.specs.Runs.{run, those}
 use Rattle.lists.specs.Tests.{any}
 use Rattle.links.specs.Labels.{shares, touched, takenOver, addCell, labels, labelAt}
 use Rattle.volume.specs.Cell.{pointOf, cornersOf}
-use Rattle.groups.specs.Judged.{sizeRows, crossedRows}
+use Rattle.groups.specs.Judged.{crossedRows}
 use Rattle.representatives.specs.Highest.{isHighest, representativesOf, centroidBits, centroidsOf}
-use Rattle.representatives.specs.Step.{numberOf, valuesOf, listedOf, representedOf, numbersAfter, centroidsAfter, workAfter}
+use Rattle.refusals.specs.Counted.{numberOf, valuesOf}
+use Rattle.representatives.specs.Step.{listedOf, representedOf, numbersAfter, centroidsAfter, workAfter}
 
 -- how many points there are, at 1, 1, 1 each; cells and crossing answers; the lengths of the result tables and the work, which hold
 -- sevens; and what is answered: number, values, and the three tables after
@@ -71,5 +73,5 @@ asked k =
     (numbersAfter a (k .cells) (k .crossing) o) (centroidsAfter a P (k .cells) (k .crossing) z) (workAfter a P (k .cells) w)
 
 examples : map asked table ≡ table
-unfolding ofBits toBits add div first unless lengthRows allBelow among run those any shares touched takenOver addCell labels labelAt pointOf cornersOf sizeRows crossedRows isHighest representativesOf centroidBits centroidsOf listedOf representedOf
+unfolding ofBits toBits add div first unless countRows wholeRows workRows sizeRows eachRows answerRows nameRows allBelow among run those any shares touched takenOver addCell labels labelAt pointOf cornersOf crossedRows isHighest representativesOf centroidBits centroidsOf listedOf representedOf
 examples = refl

@@ -1,4 +1,5 @@
 -- The definitions that the contracts of representatives cite.
 pub mod Highest
 pub mod Step
+pub mod Parts
 pub mod Example

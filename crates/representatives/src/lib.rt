@@ -2,16 +2,10 @@
 ghost use mathlib.Core.Path.{_≡_};
 ghost use lib.ListN.{length, replicate};
 ghost use Rattle.lists.specs.Runs.{those};
-ghost use Rattle.groups.specs.Settled.{Sized, Labelled};
-ghost use Rattle.representatives.specs.Highest.{Readable, isLast, Storable, ListedAt, Storing, Listed, RoomFor};
-ghost use Rattle.representatives.specs.Step.{Found, Settling, Represents, RepresentativesDone};
-
-// The outcome of `representatives`: how many there are; refused, with document 01's number; no room for so many.
-pub enum Represented {
-    Done(u64),
-    Refused(u32),
-    Short(u64),
-}
+ghost use Rattle.groups.specs.Parts.{Sized, Labelled};
+ghost use Rattle.representatives.specs.Step.{RepresentativesDone};
+ghost use Rattle.representatives.specs.Parts.{Readable, isLast, Storable, ListedAt, Storing, Listed, RoomFor, Found, Settling, Represents};
+use refusals::Counted;
 
 // Whether the cell i is not crossed, and the last of its group.
 fn is_last(crossing: &[u8], work: &[u32], n: usize, i: usize) -> bool
@@ -101,16 +95,16 @@ fn list_in_room(
     centroids: &mut [u32],
     work: &[u32],
     n: usize,
-) -> Represented
+) -> Counted
     requires { ⌜ Found (now points) (now cells) (now crossing) (now work) n ⌝ }
     ensures { λ r. ⌜ Represents (now (points .entry)) (now (cells .entry)) (now (crossing .entry)) (now (numbers .entry)) (now (centroids .entry)) r (now (numbers .exit)) (now (centroids .exit)) ⌝ }
 {
     let count = count_last(cells, crossing, work, n);
     if numbers.len() < count {
-        return Represented::Short(count as u64);
+        return Counted::Short(count as u64);
     }
     if centroids.len() / 3 < count {
-        return Represented::Short(count as u64);
+        return Counted::Short(count as u64);
     }
     let places = 3 * count;
     list_last(
@@ -122,7 +116,7 @@ fn list_in_room(
         work,
         n,
     );
-    Represented::Done(count as u64)
+    Counted::Done(count as u64)
 }
 
 // The representatives, with a work table of one entry a point and a cell that holds anything and is left zero.
@@ -134,7 +128,7 @@ fn represent(
     centroids: &mut [u32],
     work: &mut [u32],
     n: usize,
-) -> Represented
+) -> Counted
     requires { ⌜ Settling (now points) (now cells) (now work) n ⌝ }
     ensures { λ r. ⌜ Represents (now (points .entry)) (now (cells .entry)) (now (crossing .entry)) (now (numbers .entry)) (now (centroids .entry)) r (now (numbers .exit)) (now (centroids .exit)) × (now (work .exit) ≡ replicate (length (now (work .entry))) 0) ⌝ }
 {
@@ -154,15 +148,15 @@ pub fn representatives(
     numbers: &mut [u32],
     centroids: &mut [u32],
     work: &mut [u32],
-) -> Represented
+) -> Counted
     ensures { λ r. ⌜ RepresentativesDone (now (points .entry)) (now (cells .entry)) (now (crossing .entry)) (now (numbers .entry)) (now (centroids .entry)) (now (work .entry)) r (now (numbers .exit)) (now (centroids .exit)) (now (work .exit)) ⌝ }
 {
+    let number = groups::judge(points.len(), cells, crossing, work.len(), 1, 1);
+    if number != 0 {
+        return Counted::Refused(number);
+    }
     let n = points.len() / 3;
     let need = n + cells.len() / 4;
-    let number = groups::judge(points.len(), cells, crossing, work.len(), need);
-    if number != 0 {
-        return Represented::Refused(number);
-    }
     represent(
         points,
         cells,

@@ -19,7 +19,7 @@ use Rattle.lists.proofs.Listing.{length-list, list-at, each-on, each-off, each-
 use Rattle.lists.proofs.Tests.{falls, stays}
 use Rattle.words.specs.Words.{wordAt, placeOf, wordsAt, spanOf}
 use Rattle.words.proofs.Words.{length-words, cell-below, Reading, reading-on}
-use Rattle.components.specs.Numbers.{Fits}
+use Rattle.components.specs.Parts.{Fits}
 use Rattle.file_components.specs.Stored.{Told}
 use Rattle.file_components.proofs.Comparing.{cells-in}
 use Rattle.mesh_file.specs.Read.{shortOf}

@@ -2,17 +2,16 @@
 use mathlib.Core.Path.{_≡_, refl, sym, ap, ap₂, subst, subst₂, _∙_}
 use mathlib.Core.Bool.{true}
 use mathlib.Core.List.{List, []}
-use Prim.Native.Nat.{ℕ, _*_, _%_, _≤_}
+use Prim.Native.Nat.{ℕ, _*_, _≤_}
 use native.Mathlib.Omega.{arith}
-use borrow.Author.Tests.{le-ltb, eq-eqb}
 use lib.ListN.{length, take}
 use lib.Seq.{take-at}
 use Rattle.refusals.specs.Rows.{first}
 use Rattle.mesh.specs.Mesh.{most, pointsOf, cellsOf}
-use Rattle.mesh.specs.Judged.{lengthRows}
+use Rattle.mesh.specs.Judged.{meshRows}
+use Rattle.mesh.proofs.Unrefused.{fits-mesh}
 use Rattle.lists.specs.Tables.{allBelow, front, zeroed}
-use Rattle.lists.proofs.Lent.{as-new}
-use Rattle.components.specs.Step.{meshRows}
+use Rattle.lists.proofs.Lent.{below-at, as-new}
 use Rattle.mesh_file.specs.Writer.{writtenNumber, writtenOf}
 use Rattle.mesh_file.specs.declared.Written.the-variants as written
 use Rattle.mesh_file.specs.declared.Loaded.{Loaded}
@@ -31,12 +30,12 @@ use Rattle.vtk_reader.proofs.Meaning.{ReadsAs, read-is-written, written
 
 -- with room for its file a writer takes every mesh
 module _ (P C o w : List ℕ) (m : Mesh P C) (v : 2 * pointsOf P ≤ length w) where
-  unrefused : first (meshRows (length P) C (length w)) ≡ 0
-  unfolding first meshRows lengthRows
-  unrefused =
-      let p : length P % 3 ≡ 0 = omega (arith, m .points) in
-      let c : length C % 4 ≡ 0 = omega (arith, m .cells) in
-      rw (le-ltb most (pointsOf P) (m .few-points), le-ltb most (cellsOf C) (m .few-cells), eq-eqb _ _ p, eq-eqb _ _ c, le-ltb (length w) (2 * pointsOf P) v, m .names) refl
+  unrefused : first (meshRows (length P) C (length w) 0 2) ≡ 0
+  unrefused = fits-mesh (length P) C (length w) 0 2 (record {
+    points = m .points;
+    cells = record { whole = m .cells; few = m .few-cells; small = m .few-points; names = below-at (pointsOf P) C (m .names) };
+    work = omega arith;
+  })
 
   pub takes : (n : ℕ) → n ≤ length o → writtenOf n P C o w ≡ written.Done n
   takes n = answers n P C o w unrefused

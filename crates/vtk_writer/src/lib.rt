@@ -84,7 +84,7 @@ fn bytes_for(p: usize, n: usize) -> usize
 pub fn write_vtk(points: &[u32], cells: &[u32], file: &mut [u8], work: &mut [u32]) -> Written
     ensures { λ r. ⌜ WriteDone (now (points .entry)) (now (cells .entry)) (now (file .entry)) (now (work .entry)) r (now (file .exit)) (now (work .exit)) ⌝ }
 {
-    let number = components::judge(points.len(), cells, work.len());
+    let number = mesh::judge(points.len(), cells, work.len(), 0, 2);
     if number != 0 {
         return Written::Refused(number);
     }

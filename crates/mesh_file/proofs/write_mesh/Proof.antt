@@ -1,14 +1,13 @@
 use mathlib.Core.Path.{_≡_, refl, sym, _∙_}
 use native.Mathlib.Omega.{arith}
 use lib.Seq.{length-take-le}
-use Rattle.components.proofs.Steps.{fitting}
+use Rattle.mesh.proofs.Unrefused.{mesh-fits, points-work}
 use Rattle.mesh_file.proofs.Writers.{refused, short, storable, done}
 use borrow.Author.Needs.{needs}
 use Rattle.mesh_file.proofs.write_mesh.Statement.{statement}
 use Rattle.mesh_file.proofs.write_mesh.Tie as tie
 use Rattle.mesh_file.proofs.write_mesh.Reads as reads
 use Rattle.mesh_file.proofs.write_mesh.Lts as lts
-use Rattle.components.proofs.judge.Reads as judge-reads
 use Rattle.mesh_file.proofs.put_mesh.Reads as put-mesh-reads
 
 judge-requires : tie.Need-judge-requires
@@ -27,7 +26,7 @@ mul-bytes-2 : tie.Need-mul-bytes-2
 mul-bytes-2 c = search needs
 
 add-bytes-2 : tie.Need-add-bytes-2
-add-bytes-2 c = let f = fitting _ _ _ (sym (c .before .judge .ensures) ∙ c .if1 .left) in omega (arith, f .cells .small, f .cells .few)
+add-bytes-2 c = let f = mesh-fits _ _ _ _ _ (sym (c .before .judge .ensures) ∙ c .if1 .left) in omega (arith, f .cells .small, f .cells .few)
 
 returns-2 : tie.Need-returns-2
 returns-2 c = short _ _ _ _ _ _ (sym (c .before .before .judge .ensures) ∙ c .before .if1 .left) refl (c .if2 .taken)
@@ -42,10 +41,10 @@ slice-aggregate-put-mesh : tie.Need-slice-aggregate-put-mesh
 slice-aggregate-put-mesh c = sym (length-take-le _ _ (c .before .if2 .left))
 
 slice-relend-prefix-put-mesh-2 : tie.Need-slice-relend-prefix-put-mesh-2
-slice-relend-prefix-put-mesh-2 c = fitting _ _ _ (sym (c .before .before .before .judge .ensures) ∙ c .before .before .if1 .left) .work
+slice-relend-prefix-put-mesh-2 c = points-work _ _ _ _ (mesh-fits _ _ _ _ _ (sym (c .before .before .before .judge .ensures) ∙ c .before .before .if1 .left))
 
 slice-aggregate-put-mesh-2 : tie.Need-slice-aggregate-put-mesh-2
-slice-aggregate-put-mesh-2 c = sym (length-take-le _ _ (fitting _ _ _ (sym (c .before .before .before .before .judge .ensures) ∙ c .before .before .before .if1 .left) .work))
+slice-aggregate-put-mesh-2 c = sym (length-take-le _ _ (points-work _ _ _ _ (mesh-fits _ _ _ _ _ (sym (c .before .before .before .before .judge .ensures) ∙ c .before .before .before .if1 .left))))
 
 put-mesh-requires : tie.Need-put-mesh-requires
 put-mesh-requires c κs = storable _ _ _ _ _ (sym (c .before .before .before .before .judge .ensures) ∙ c .before .before .before .if1 .left) refl (c .before .before .if2 .left)

@@ -5,7 +5,7 @@ use native.Mathlib.Omega.{arith}
 use borrow.Author.Needs.{needs}
 use lib.ListN.{length}
 use Rattle.lists.specs.Runs.{run, those}
-use Rattle.representatives.specs.Highest.{isLast}
+use Rattle.representatives.specs.Parts.{isLast}
 use Rattle.representatives.proofs.Listing.{readable, count-next, counted}
 use Rattle.representatives.proofs.count_last.Statement.{statement}
 use Rattle.representatives.proofs.count_last.Tie as tie

@@ -3,7 +3,7 @@ use native.Mathlib.Omega.{arith}
 use Prim.Native.Nat.{ℕ}
 use borrow.Author.Tests.{eqb-true}
 use Rattle.lists.proofs.Tests.{failed, passed}
-use Rattle.representatives.specs.Highest.{isLast}
+use Rattle.representatives.specs.Parts.{isLast}
 use borrow.Author.Needs.{needs}
 use Rattle.representatives.proofs.is_last.Statement.{statement}
 use Rattle.representatives.proofs.is_last.Tie as tie

@@ -1,7 +1,7 @@
 use mathlib.Core.Path.{_≡_, refl, sym, _∙_}
 use native.Mathlib.Omega.{arith}
 use lib.Seq.{length-take-le}
-use Rattle.representatives.proofs.Steps.{short-numbers, short-centroids, all-listed, storing}
+use Rattle.representatives.proofs.WaysOut.{short-numbers, short-centroids, all-listed, storing}
 use borrow.Author.Needs.{needs}
 use Rattle.representatives.proofs.list_in_room.Statement.{statement}
 use Rattle.representatives.proofs.list_in_room.Tie as tie

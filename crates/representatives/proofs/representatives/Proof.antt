@@ -1,8 +1,7 @@
-use mathlib.Core.Path.{_≡_, refl, sym, ap, _∙_}
-use lib.Seq.{length-take-le}
-use Rattle.representatives.proofs.Steps.{refused, settling, done}
-use Rattle.groups.proofs.Judging.{crossed-fit}
+use mathlib.Core.Path.{sym, _∙_}
 use mathlib.Core.List.{[]}
+use lib.Seq.{length-take-le}
+use Rattle.representatives.proofs.WaysOut.{refused, work-fits, settling, done}
 use borrow.Author.Needs.{needs}
 use Rattle.representatives.proofs.representatives.Statement.{statement}
 use Rattle.representatives.proofs.representatives.Tie as tie
@@ -11,20 +10,20 @@ use Rattle.representatives.proofs.representatives.Lts as lts
 use Rattle.groups.proofs.judge.Reads as judge-reads
 use Rattle.representatives.proofs.represent.Reads as represent-reads
 
-add-need : tie.Need-add-need
-add-need c = search needs
-
 judge-requires : tie.Need-judge-requires
 judge-requires c κs = search needs
 
 returns : tie.Need-returns
 returns c = refused _ _ _ _ _ _ (c .before .judge .ensures) (c .if1 .taken)
 
+add-need : tie.Need-add-need
+add-need c = search needs
+
 slice-relend-prefix-represent : tie.Need-slice-relend-prefix-represent
-slice-relend-prefix-represent c = crossed-fit _ _ _ _ _ (sym (c .before .before .before .judge .ensures) ∙ c .before .before .if1 .left) .work
+slice-relend-prefix-represent c = work-fits _ _ _ _ (sym (c .before .before .before .judge .ensures) ∙ c .before .before .if1 .left)
 
 slice-aggregate-represent : tie.Need-slice-aggregate-represent
-slice-aggregate-represent c = sym (length-take-le _ _ (crossed-fit _ _ _ _ _ (sym (c .before .before .before .before .judge .ensures) ∙ c .before .before .before .if1 .left) .work))
+slice-aggregate-represent c = sym (length-take-le _ _ (work-fits _ _ _ _ (sym (c .before .before .before .before .judge .ensures) ∙ c .before .before .before .if1 .left)))
 
 represent-requires : tie.Need-represent-requires
 represent-requires c κs = settling _ _ _ [] [] _ (sym (c .before .before .before .before .judge .ensures) ∙ c .before .before .before .if1 .left)
@@ -45,9 +44,9 @@ pub representatives-spec : {M : Type 1} → statement M
 representatives-spec =
     tie.close
     (tie.spec
-    add-need
     judge-requires
     returns
+    add-need
     slice-relend-prefix-represent
     slice-aggregate-represent
     represent-requires

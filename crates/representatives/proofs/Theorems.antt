@@ -1,31 +1,33 @@
 -- What `representatives` promises, about its definitions: the list is exactly the highest cells of the groups, ascending; each refusal
 -- exactly when, the lowest first; one outcome only. Assumes nothing.
-use mathlib.Core.Path.{_≡_, refl, sym, ap, _∙_}
+use mathlib.Core.Path.{_≡_, refl}
 use mathlib.Core.Logic.{_↔_}
-use mathlib.Core.Bool.{Bool, true, false, cond, _&&_}
-use mathlib.Core.List.{List, [], _∷_}
-use Prim.Native.Nat.{ℕ, _+_, _*_, _/_, _≤_, _<_}
+use mathlib.Core.Bool.{true, false, _&&_}
+use mathlib.Core.List.{List, [], _++_}
+use Prim.Native.Nat.{ℕ, _*_, _/_, _≤_, _<_}
 use native.Mathlib.Omega.{arith}
 use borrow.Author.Tests.{eqb-true, eq-eqb}
-use lib.Dec.{eqb, ltb}
+use lib.Dec.{eqb}
 use lib.ListN.{length, getD}
 use Rattle.lists.specs.Counts.{Strict}
-use Rattle.refusals.specs.Rows.{_when_, first, proper, rising, caused, lower}
-use Rattle.mesh.specs.Mesh.{pointsOf, cellsOf}
-use Rattle.mesh.specs.Judged.{lengthRows}
 use Rattle.lists.specs.Tables.{Determined}
 use Rattle.lists.proofs.Bools.{and-left, and-right}
-use Rattle.refusals.proofs.Rows.{number-rows, exactly}
 use Rattle.lists.proofs.Lent.{determined}
+use Rattle.refusals.specs.Rows.{first, InTurn, rising, caused, lower}
+use Rattle.refusals.specs.Causes.{workRows, eachRows, answerRows, roomRows}
+use Rattle.refusals.specs.Counted.{numberOf}
+use Rattle.refusals.specs.declared.Counted.{Counted}
+use Rattle.refusals.proofs.Rows.{in-turn, exactly}
+use Rattle.refusals.proofs.Counting.{room-number, counted-number}
+use Rattle.mesh.specs.Judged.{countRows, wholeRows, sizeRows, nameRows}
 use Rattle.links.specs.Labels.{labelAt}
 use Rattle.links.specs.Walks.{Walk, Share}
 use Rattle.links.proofs.Groups.{label-joined, label-highest}
-use Rattle.groups.specs.Judged.{sizeRows, crossedRows}
+use Rattle.groups.specs.Judged.{crossedRows}
+use Rattle.groups.proofs.Unrefused.{crossed-proper}
 use Rattle.representatives.specs.Highest.{isHighest, representativesOf}
-use Rattle.representatives.specs.Step.{countOf, representativesRows, numberOf, listedOf, representedOf, RepresentativesDone}
+use Rattle.representatives.specs.Step.{countOf, inputRows, representativesRows, listedOf, representedOf, RepresentativesDone}
 use Rattle.representatives.proofs.Passing.{those-pass, those-all, those-rise}
-use Rattle.representatives.specs.declared.Represented.{Represented}
-use Rattle.representatives.specs.declared.Represented.the-variants.{Done, Refused, Short}
 
 -- the cell i is not crossed, and no cell that it is joined with is higher
 pub record Highest (C X : List ℕ) (n i : ℕ) : Type 0 where
@@ -63,25 +65,23 @@ module _ (C X : List ℕ) (n : ℕ) where
   unfolding representativesOf
   ascending = those-rise (isHighest C X n) n
 
--- ---- each refusal exactly when
+-- ---- each refusal exactly when: in its turn, which is the lowest first
 
 module _ (P C X o z w : List ℕ) where
-  pub number-is : numberOf (representedOf P C X o z w) ≡ first (representativesRows P C X o z w)
-  unfolding representedOf listedOf first proper crossedRows sizeRows lengthRows
+  number-is : numberOf (representedOf P C X o z w) ≡ first (representativesRows P C X o z w)
+  unfolding representedOf listedOf first roomRows
   number-is =
-      number-rows numberOf Refused _ (crossedRows (length P) C X (length w) (pointsOf P + cellsOf C))
-      (9 when ltb (length o) (countOf C X) ∷ 9 when ltb (length z / 3) (countOf C X) ∷ []) refl (λ k. refl)
-      (go (ltb (length o) (countOf C X)) (ltb (length z / 3) (countOf C X)))
-    where
-      go : (s t : Bool) → numberOf (cond s (Short (countOf C X)) (cond t (Short (countOf C X)) (Done (countOf C X)))) ≡ cond s 9 (cond t 9 0)
-      go true t = refl
-      go false true = refl
-      go false false = refl
+      let k : ℕ = countOf C X in
+      counted-number (inputRows P C X w) (roomRows (length o) k ++ roomRows (length z / 3) k) _ (crossed-proper (length P) C X (length w) 1 1)
+      (room-number (length o) k k _ (roomRows (length z / 3) k) (room-number (length z / 3) k k _ [] refl))
+
+  pub representatives-in-turn : (k : ℕ) → 0 < k → (numberOf (representedOf P C X o z w) ≡ k) ↔ InTurn k (representativesRows P C X o z w)
+  representatives-in-turn = in-turn (representativesRows P C X o z w) number-is
 
   pub representatives-exactly : (k : ℕ) → 0 < k
       → (numberOf (representedOf P C X o z w) ≡ k) ↔ ((caused k (representativesRows P C X o z w) ≡ true) × (lower k (representativesRows P C X o z w) ≡ false))
-  unfolding rising
+  unfolding rising crossedRows sizeRows countRows wholeRows workRows eachRows answerRows nameRows roomRows
   representatives-exactly = exactly (representativesRows P C X o z w) refl number-is
 
-  pub representatives-one : Determined (λ (a : Represented × List ℕ × List ℕ × List ℕ). RepresentativesDone P C X o z w (a .0) (a .1) (a .2) (a .3))
+  pub representatives-one : Determined (λ (a : Counted × List ℕ × List ℕ × List ℕ). RepresentativesDone P C X o z w (a .0) (a .1) (a .2) (a .3))
   representatives-one = determined (λ a d i. (d .answer i, d .numbers i, d .centroids i, d .work i))

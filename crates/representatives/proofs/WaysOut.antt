@@ -9,18 +9,21 @@ use borrow.Author.Tests.{lt-ltb, le-ltb}
 use lib.Dec.{ltb}
 use lib.ListN.{length, getD, take, drop, replicate}
 use lib.Seq.{length-take-le}
-use Rattle.refusals.specs.Rows.{first, under, unless}
+use Rattle.refusals.specs.Rows.{first, under}
+use Rattle.refusals.specs.Causes.{workRows, eachRows, answerRows}
+use Rattle.refusals.specs.declared.Counted.{Counted}
+use Rattle.refusals.specs.declared.Counted.the-variants.{Done, Refused, Short}
 use Rattle.mesh.specs.Mesh.{pointsOf, cellsOf}
-use Rattle.mesh.specs.Judged.{lengthRows}
+use Rattle.mesh.specs.Judged.{countRows, wholeRows, sizeRows, nameRows}
 use Rattle.lists.specs.Tables.{among, allFrom, on}
 use Rattle.refusals.proofs.Rows.{unless-none, unless-some, first-under}
 use Rattle.lists.proofs.Lent.{as-lent, as-lent-below, as-new}
-use Rattle.groups.specs.Judged.{sizeRows, crossedRows}
-use Rattle.groups.proofs.Judging.{Fitting, crossed-fit, sized-front}
-use Rattle.representatives.specs.Highest.{representativesOf, centroidsOf, RoomFor, Storing, Listed}
-use Rattle.representatives.specs.Step.{countOf, numberOf, listedOf, representedOf, workAfter, RepresentativesDone, Settling, Found, Represents}
-use Rattle.representatives.specs.declared.Represented.{Represented}
-use Rattle.representatives.specs.declared.Represented.the-variants.{Done, Refused, Short}
+use Rattle.groups.specs.Judged.{crossedRows}
+use Rattle.groups.proofs.Unrefused.{Answered, crossed-fits, sized-front}
+use Rattle.representatives.specs.Parts.{RoomFor, Storing, Listed, Settling, Found, Represents}
+use Rattle.representatives.specs.Highest.{representativesOf, centroidsOf}
+use Rattle.refusals.specs.Counted.{numberOf}
+use Rattle.representatives.specs.Step.{countOf, inputRows, listedOf, representedOf, workAfter, RepresentativesDone}
 
 -- ---- short of room, or all
 
@@ -58,10 +61,13 @@ module _ (P C X o z : List ℕ) {k : ℕ} (e : k ≡ countOf C X) where
 
 -- ---- the step
 
+pub work-fits : (p : ℕ) (C X : List ℕ) (room : ℕ) → first (crossedRows p C X room 1 1) ≡ 0 → p / 3 + cellsOf C ≤ room
+work-fits p C X room e = omega (arith, crossed-fits p C X room 1 1 e .mesh .work)
+
 module _ (P C X o z w : List ℕ) where
-  low : first (crossedRows (length P) C X (length w) (pointsOf P + cellsOf C)) < 9
-  unfolding crossedRows sizeRows lengthRows under
-  low = first-under 9 (crossedRows (length P) C X (length w) (pointsOf P + cellsOf C)) (omega arith) refl
+  low : first (inputRows P C X w) < 9
+  unfolding crossedRows sizeRows countRows wholeRows workRows eachRows answerRows nameRows under
+  low = first-under 9 (inputRows P C X w) (omega arith) refl
 
   -- short of room or not, the work is zero
   work-after : workAfter (listedOf C X o z) P C w ≡ replicate (pointsOf P + cellsOf C) 0 ++ drop (pointsOf P + cellsOf C) w
@@ -75,7 +81,7 @@ module _ (P C X o z w : List ℕ) where
       go false true = refl
       go false false = refl
 
-  pub refused : {r : ℕ} → r ≡ first (crossedRows (length P) C X (length w) (pointsOf P + cellsOf C)) → r ≢ 0
+  pub refused : {r : ℕ} → r ≡ first (inputRows P C X w) → r ≢ 0
       → RepresentativesDone P C X o z w (Refused r) o z w
   unfolding representedOf allFrom
   refused {r} e d =
@@ -87,22 +93,22 @@ module _ (P C X o z w : List ℕ) where
         work = rw a (sym (as-lent-below 9 (9 ∷ []) r _ w d (subst (λ (k : ℕ). k < 9) (sym e) low) refl));
       }
 
-  module _ (c : first (crossedRows (length P) C X (length w) (pointsOf P + cellsOf C)) ≡ 0) where
-    pub fits : Fitting (length P) C X (length w) (pointsOf P + cellsOf C)
-    fits = crossed-fit (length P) C X (length w) (pointsOf P + cellsOf C) c
+  module _ (c : first (inputRows P C X w) ≡ 0) where
+    fits : Answered (length P) C X (length w) 1 1
+    fits = crossed-fits (length P) C X (length w) 1 1 c
 
     pub settling : Settling P C (take (pointsOf P + cellsOf C) w) (pointsOf P)
     settling = record {
-      points = λ p h. omega (arith, fits .cells .names p h);
-      sized = sized-front (length P) C X w fits;
+      points = λ p h. omega (arith, fits .mesh .cells .names p h);
+      sized = sized-front C w (pointsOf P) (fits .mesh .cells) (work-fits (length P) C X (length w) c);
     }
 
-    pub done : {r : Represented} {o′ z′ w′ : List ℕ} → Represents P C X o z r o′ z′ → w′ ≡ replicate (length (take (pointsOf P + cellsOf C) w)) 0
+    pub done : {r : Counted} {o′ z′ w′ : List ℕ} → Represents P C X o z r o′ z′ → w′ ≡ replicate (length (take (pointsOf P + cellsOf C) w)) 0
         → RepresentativesDone P C X o z w r o′ z′ (w′ ++ drop (pointsOf P + cellsOf C) w)
     unfolding representedOf
     done {r} {o′} {z′} {w′} l ew =
         let a : representedOf P C X o z w ≡ listedOf C X o z = unless-none _ Refused _ c in
-        let zw : w′ ≡ replicate (pointsOf P + cellsOf C) 0 = ew ∙ ap (λ (k : ℕ). replicate k 0) (length-take-le _ w (fits .work)) in
+        let zw : w′ ≡ replicate (pointsOf P + cellsOf C) 0 = ew ∙ ap (λ (k : ℕ). replicate k 0) (length-take-le _ w (work-fits (length P) C X (length w) c)) in
         record {
           answer = l .answer ∙ sym a;
           numbers = rw a (l .numbers);
