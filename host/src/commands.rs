@@ -1,169 +1,202 @@
-//! What the tool does: each command gives the text to print, or one sentence that says why not.
+//! What the tool does: each command gives what is to be told, or one sentence that says why it was not done.
 
-use crate::arguments::{CoverOrder, Files};
-use crate::numbers::{grouped, measure};
-use sporeferry::cover::Covered;
-use sporeferry::inside::enclosed_volume;
-use sporeferry::part::Part;
-use sporeferry::whole_file::{check_place, write_whole};
-use sporeferry::{Bounds, Mesh, Refusal};
-use std::fmt::Display;
+use crate::arguments::{AdviseOrder, CoverOrder, Files};
+use crate::evidence;
+use crate::numbers::{bytes_in_words, grouped, measure};
+use crate::report::{about, Report, Told};
+use crate::source::Source;
+use sporeferry::advice::{finest, instead, least_cell, Forecast, MOST_LEVELS};
+use sporeferry::cover::{CoverError, Covered};
+use sporeferry::json::Json;
+use sporeferry::kinds::{foreign_vtk, kind_of};
+use sporeferry::whole_file::{write_whole, Place};
+use sporeferry::{Mesh, Refusal};
 use std::fs;
 use std::path::Path;
 
-/// Meshes a part, writes the file and tells what came of it.
-pub fn cover(order: &CoverOrder) -> Result<String, String> {
-    let (input, output) = (order.part.as_path(), order.output.as_path());
-    let bytes = read_for(input, output)?;
-    let part = Part::from_stl(&bytes).map_err(about(input))?;
-    drop(bytes);
-    let covered = sporeferry::cover::cover(&part, order.request).map_err(about(input))?;
+/// Meshes a part, writes the mesh and its evidence, and tells what came of it.
+pub fn cover(order: &CoverOrder) -> Result<Told, String> {
+    let output = order.output.as_path();
+    let beside = evidence::beside(output);
+    let source = Source::read(&order.part)?;
+    let place = place_for(&order.part.file, output, order.force)?;
+    let place_beside = place_for(&order.part.file, &beside, order.force)?;
+    let covered = covered(order, &source)?;
     let file = covered.mesh.to_bytes().map_err(about(output))?;
-    write_whole(output, &file).map_err(about(output))?;
+    let facts = evidence::of_cover(order, &source, &covered, &file);
+    let written = format!("{facts}\n");
+    write_whole(&[(&place, &file), (&place_beside, written.as_bytes())]).map_err(about(output))?;
 
     let mut report = Report::default();
-    let triangles = grouped(part.surface.triangles().len());
-    report.line("part", format!("{}, {triangles} triangles", input.display()));
-    report.grid(&covered);
-    report.mesh(&covered, &part, order.request.crust);
+    source.tell(&mut report);
+    tell_grid(&mut report, &covered);
+    tell_mesh(&mut report, &covered, &source, order.request.crust);
     report.file(output, &file);
-    Ok(report.0)
+    report.line("evidence", beside.display());
+    let warnings = match covered.dropped {
+        0 => vec![],
+        dropped => vec![format!("{} flat cells are left out of the mesh", grouped(dropped))],
+    };
+    let text = report.or_json(order.json, &facts);
+    Ok(Told { text, warnings, written: Some(output.into()), failure: None })
 }
 
-/// Tells what a mesh file or a VTK file holds.
-pub fn info(path: &Path) -> Result<String, String> {
-    let bytes = fs::read(path).map_err(about(path))?;
-    let (kind, read): (_, Reader) = match is_vtk(&bytes) {
-        true => ("VTK file", Mesh::from_vtk),
-        false => ("mesh file", Mesh::from_bytes),
-    };
-    let mesh = read(&bytes).map_err(about(path))?;
-    let pieces = mesh.components().map_err(about(path))?.count;
+/// The mesh, or why there is none; with a refusal 4 what would be taken.
+fn covered(order: &CoverOrder, source: &Source) -> Result<Covered, String> {
+    let name = &source.file;
+    sporeferry::cover::cover(&source.part, order.request).map_err(|error| match error {
+        CoverError::Refused(Refusal { number: 4, .. }) => {
+            let words = instead(source.part.bounds, order.request);
+            let advice = words.map(|words| format!("refusal 4 of plan: {words}"));
+            let list = format!("\"sporeferry advise {}\" lists what fits", name.display());
+            about(name)(format!("{}; {list}", advice.unwrap_or(error.to_string())))
+        }
+        error => about(name)(error.to_string()),
+    })
+}
 
+fn tell_grid(report: &mut Report, covered: &Covered) {
+    let Covered { plan, steps, octants, cells, .. } = covered;
+    let [nx, ny, nz] = plan.dims();
+    let (levels, unit) = (plan.levels(), plan.half());
+    let uneven = match steps.greatest - steps.least > 0.01 * unit {
+        true => format!(", steps {} to {} for want of digits", steps.least, steps.greatest),
+        false => String::new(),
+    };
+    report.line("grid", format!("{nx} × {ny} × {nz}, levels {levels}, unit {unit}{uneven}"));
+    let [all, asked] = [plan.octants(), octants.asked].map(grouped);
+    let (crossed, split) = (grouped(octants.crossed), grouped(octants.split));
+    report.line("octants", format!("{all}: {asked} asked, {crossed} crossed, {split} split"));
+    let [all, crossed] = [cells.all, cells.crossed].map(grouped);
+    report.line("cells", format!("{all}: {crossed} crossed"));
+}
+
+fn tell_mesh(report: &mut Report, covered: &Covered, source: &Source, crust: bool) {
+    let volume = covered.mesh.volume();
+    let compared = match source.volume_inside() {
+        _ if crust => ", of the cells that the surface touches".to_string(),
+        Ok(part) => format!(
+            ", {:.1} % more than the part's {}: a jagged hull, not fitted to the surface",
+            100.0 * (volume / part - 1.0),
+            measure(part)
+        ),
+        Err(why) => format!("; a jagged hull, not fitted to the surface; the part's is {why}"),
+    };
+    if !crust {
+        let [groups, inside] = [covered.cells.groups, covered.cells.inside].map(grouped);
+        report.line("groups", format!("{groups}: {inside} inside"));
+    }
+    report.line("kept", grouped(covered.mesh.cells.len()));
+    report.line("dropped", grouped(covered.dropped));
+    report.line("points", grouped(covered.mesh.points.len()));
+    report.line("pieces", grouped(covered.pieces));
+    report.line("volume", format!("{}{compared}", measure(volume)));
+}
+
+/// Tells which cell sizes a part takes.
+pub fn advise(order: &AdviseOrder) -> Result<Told, String> {
+    let source = Source::read(&order.part)?;
+    let bounds = source.part.bounds;
     let mut report = Report::default();
-    report.file(path, &bytes);
-    report.line("reads", format!("yes, as a {kind}"));
-    report.line("points", grouped(mesh.points.len()));
-    report.line("cells", grouped(mesh.cells.len()));
-    report.line("pieces", grouped(pieces));
-    report.line("box", box_of(&mesh));
-    report.line("volume", measure(mesh.volume()));
-    Ok(report.0)
+    source.tell(&mut report);
+    let mut facts = Vec::new();
+    report.line("levels", "least cell        unit     octants        cells      memory");
+    for levels in 0..=MOST_LEVELS {
+        let Some(plan) = least_cell(bounds, levels) else {
+            report.line(&levels.to_string(), "no cell of use is accepted");
+            continue;
+        };
+        let forecast = Forecast::new(&source.part, plan).map_err(about(&source.file))?;
+        let (cell, unit, octants) = (plan.cell(), plan.half(), grouped(plan.octants()));
+        let (cells, memory) = (grouped(forecast.cells), bytes_in_words(forecast.memory));
+        let counts = format!("{cell:>10} {unit:>11} {octants:>11} {cells:>12} {memory:>11}");
+        report.line(&levels.to_string(), counts);
+        facts.push(Json::object([
+            ("levels", levels.into()),
+            ("least_cell", cell.into()),
+            ("unit", unit.into()),
+            ("octants", plan.octants().into()),
+            ("cells", forecast.cells.into()),
+            ("memory", forecast.memory.into()),
+        ]));
+    }
+    if let Some(plan) = finest(bounds) {
+        let (levels, cell) = (plan.levels(), plan.cell());
+        report.line("finest", format!("--levels {levels} --cell {cell}, unit {}", plan.half()));
+    }
+    report.line(
+        "note",
+        "cells at the surface are two units wide; more levels are not finer past 2 or 3,",
+    );
+    report
+        .line("", "since a plan has at most 1,048,576 octants; 5 levels take no part: its margin");
+    report.line("", "alone makes 343 roots, and 5 levels allow 224");
+    let facts = Json::object([("part", evidence::of_part(&source)), ("fits", Json::List(facts))]);
+    Ok(Told { text: report.or_json(order.json, &facts), ..Told::default() })
 }
 
 /// Writes a mesh file as a VTK file.
-pub fn to_vtk(files: &Files) -> Result<String, String> {
-    convert(files, Mesh::from_bytes, Mesh::to_vtk, |bytes| match is_vtk(bytes) {
-        true => Some("it is a VTK file already"),
-        false => None,
+pub fn to_vtk(files: &Files) -> Result<Told, String> {
+    convert(files, Mesh::to_vtk, |bytes| match is_vtk(bytes) {
+        true => Err("it is a VTK file already".into()),
+        false => read_mesh(bytes),
     })
 }
 
 /// Writes a VTK file as a mesh file.
-pub fn to_mesh(files: &Files) -> Result<String, String> {
-    convert(files, Mesh::from_vtk, Mesh::to_bytes, |bytes| match is_vtk(bytes) {
-        true => None,
-        false => Some("it is no VTK file"),
+pub fn to_mesh(files: &Files) -> Result<Told, String> {
+    convert(files, Mesh::to_bytes, |bytes| match is_vtk(bytes) {
+        true => read_vtk(bytes),
+        false => Err(format!("it is no VTK file of this tool, but {}", kind_of(bytes))),
     })
 }
 
-type Reader = fn(&[u8]) -> Result<Mesh, Refusal>;
-type Writer = fn(&Mesh) -> Result<Vec<u8>, Refusal>;
-
 /// Whether a file starts as every VTK file does. A mesh file never does: its first count would be
 /// above every bound.
-fn is_vtk(bytes: &[u8]) -> bool {
+pub fn is_vtk(bytes: &[u8]) -> bool {
     bytes.starts_with(b"# vtk DataFile")
+}
+
+/// The mesh of a mesh file, or why it does not read; what it is instead, if that is known.
+pub fn read_mesh(bytes: &[u8]) -> Result<Mesh, String> {
+    Mesh::from_bytes(bytes).map_err(|refusal| match kind_of(bytes) {
+        kind if kind.starts_with("none") => refusal.to_string(),
+        kind => format!("it is no mesh file of this tool, but {kind} ({refusal})"),
+    })
+}
+
+/// The mesh of a VTK file, or why it does not read; how another program wrote it, if that shows.
+pub fn read_vtk(bytes: &[u8]) -> Result<Mesh, String> {
+    Mesh::from_vtk(bytes).map_err(|refusal| match foreign_vtk(bytes) {
+        Some(how) => format!("a VTK file that this tool did not write, {how} ({refusal})"),
+        None => refusal.to_string(),
+    })
 }
 
 fn convert(
     files: &Files,
-    read: Reader,
-    write: Writer,
-    wrong_kind: fn(&[u8]) -> Option<&'static str>,
-) -> Result<String, String> {
+    write: fn(&Mesh) -> Result<Vec<u8>, Refusal>,
+    read: fn(&[u8]) -> Result<Mesh, String>,
+) -> Result<Told, String> {
     let (input, output) = (files.input.as_path(), files.output.as_path());
-    let bytes = read_for(input, output)?;
-    if let Some(sentence) = wrong_kind(&bytes) {
-        return Err(about(input)(sentence));
-    }
+    let bytes = fs::read(input).map_err(about(input))?;
+    let place = place_for(input, output, files.force)?;
     let mesh = read(&bytes).map_err(about(input))?;
     let file = write(&mesh).map_err(about(output))?;
-    write_whole(output, &file).map_err(about(output))?;
+    write_whole(&[(&place, &file)]).map_err(about(output))?;
 
     let mut report = Report::default();
     report.line("points", grouped(mesh.points.len()));
     report.line("cells", grouped(mesh.cells.len()));
     report.file(output, &file);
-    Ok(report.0)
+    Ok(Told { text: report.text(), written: Some(output.into()), ..Told::default() })
 }
 
-/// Lines of a name and what is to be said of it.
-#[derive(Default)]
-struct Report(String);
-
-impl Report {
-    fn line(&mut self, name: &str, value: impl Display) {
-        self.0 += &format!("{name:<8} {value}\n");
+/// The place of a file that is written, which is never the one that was read.
+fn place_for(input: &Path, output: &Path, force: bool) -> Result<Place, String> {
+    let place = Place::new(output, force).map_err(about(output))?;
+    match place.holds(input) {
+        true => Err(format!("{}: it is the file to be read", output.display())),
+        false => Ok(place),
     }
-
-    fn file(&mut self, path: &Path, bytes: &[u8]) {
-        self.line("file", format!("{}, {} bytes", path.display(), grouped(bytes.len())));
-    }
-
-    fn grid(&mut self, Covered { plan, octants, cells, .. }: &Covered) {
-        let [nx, ny, nz] = plan.dims();
-        let (levels, unit) = (plan.levels(), plan.half());
-        self.line("grid", format!("{nx} × {ny} × {nz}, levels {levels}, unit {unit}"));
-        let [all, asked] = [plan.octants(), octants.asked].map(grouped);
-        let (crossed, split) = (grouped(octants.crossed), grouped(octants.split));
-        self.line("octants", format!("{all}: {asked} asked, {crossed} crossed, {split} split"));
-        let [all, crossed] = [cells.all, cells.crossed].map(grouped);
-        self.line("cells", format!("{all}: {crossed} crossed"));
-    }
-
-    fn mesh(&mut self, covered: &Covered, part: &Part, crust: bool) {
-        let mut volume = measure(covered.mesh.volume());
-        if !crust {
-            let [groups, inside] = [covered.cells.groups, covered.cells.inside].map(grouped);
-            self.line("groups", format!("{groups}: {inside} inside"));
-            let enclosed = enclosed_volume(part.surface.triangles());
-            volume += &format!(", the part's is {}", measure(enclosed));
-        }
-        self.line("kept", grouped(covered.mesh.cells.len()));
-        self.line("dropped", grouped(covered.dropped));
-        self.line("points", grouped(covered.mesh.points.len()));
-        self.line("pieces", grouped(covered.pieces));
-        self.line("volume", volume);
-    }
-}
-
-fn box_of(mesh: &Mesh) -> String {
-    let Some(Bounds { min, max }) = Bounds::around(&mesh.points) else {
-        return "none".into();
-    };
-    let side = |axis: usize| format!("{} to {}", min[axis], max[axis]);
-    format!("x {}, y {}, z {}", side(0), side(1), side(2))
-}
-
-/// The bytes of a file, once it is sure that what comes of it has a place.
-fn read_for(input: &Path, output: &Path) -> Result<Vec<u8>, String> {
-    let bytes = fs::read(input).map_err(about(input))?;
-    check_place(output).map_err(about(output))?;
-    if same_file(input, output) {
-        return Err(format!("{}: it is the file to be read", output.display()));
-    }
-    Ok(bytes)
-}
-
-fn same_file(one: &Path, other: &Path) -> bool {
-    match (fs::canonicalize(one), fs::canonicalize(other)) {
-        (Ok(one), Ok(other)) => one == other,
-        _ => false,
-    }
-}
-
-/// Puts the file's name before what is wrong with it.
-fn about<E: Display>(path: &Path) -> impl Fn(E) -> String + '_ {
-    move |error| format!("{}: {error}", path.display())
 }

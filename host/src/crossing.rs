@@ -1,4 +1,4 @@
-//! Whether a closed triangle meets a closed box or a closed tetrahedron. Touching counts.
+//! Whether a closed triangle meets a closed box, a closed tetrahedron or another triangle. Touching counts.
 //!
 //! Two convex bodies are apart exactly when some axis keeps their shadows apart, and a few axes
 //! are enough: face normals and products of edges. Shadows count as apart only if the gap is larger than
@@ -24,18 +24,75 @@ pub fn meets_box(triangle: &Triangle, low: Point, high: Point) -> bool {
         || products(&edges, &UNITS).any(apart))
 }
 
-/// Whether a triangle meets a tetrahedron.
-pub fn meets_tetrahedron(triangle: &Triangle, cell: &[Point; 4]) -> bool {
-    let apart = |direction: Point| shadows_apart(direction, triangle, cell);
-    let [a, b, c, d] = *cell;
-    let (ab, ac, ad) = (sub(b, a), sub(c, a), sub(d, a));
-    let (bc, bd, cd) = (sub(c, b), sub(d, b), sub(d, c));
+/// Whether two triangles meet. Those in one plane are told apart by the normals of their edges in it.
+pub fn meets_triangle(one: &Triangle, other: &Triangle) -> bool {
+    let (a, b) = (one.map(|p| sub(p, one[0])), other.map(|p| sub(p, one[0])));
+    let (edges, others) = (edges_of(&a), edges_of(&b));
+    let normals = [cross(edges[0], edges[1]), cross(others[0], others[1])];
+    let apart = |direction: Point| shadows_apart(direction, &a, &b);
+    !(normals.into_iter().any(apart)
+        || products(&edges, &others).any(apart)
+        || products(&edges, &normals[..1]).any(apart)
+        || products(&others, &normals[1..]).any(apart))
+}
 
-    let edges = edges_of(triangle);
-    let faces = [cross(ab, ac), cross(ab, ad), cross(ac, ad), cross(bc, bd)];
-    !(apart(cross(edges[0], edges[1]))
-        || faces.into_iter().any(apart)
-        || products(&edges, &[ab, ac, ad, bc, bd, cd]).any(apart))
+/// A tetrahedron, made ready to be asked about many triangles.
+pub struct Cell {
+    /// Its first corner, from where all is seen.
+    from: Point,
+    corners: [Point; 4],
+    edges: [Point; 6],
+    faces: [Face; 4],
+    /// Whether no face's shadow is as flat as rounding.
+    solid: bool,
+}
+
+/// The direction across a face, and the cell's shadow on it.
+struct Face {
+    across: Point,
+    low: f64,
+    high: f64,
+}
+
+impl Cell {
+    pub fn new(corners: [Point; 4]) -> Self {
+        let from = corners[0];
+        let corners = corners.map(|corner| sub(corner, from));
+        let [a, b, c, d] = corners;
+        let edges = [sub(b, a), sub(c, a), sub(d, a), sub(c, b), sub(d, b), sub(d, c)];
+        let [ab, ac, ad, bc, bd, _] = edges;
+        let normals = [cross(ab, ac), cross(ab, ad), cross(ac, ad), cross(bc, bd)];
+        let faces = normals.map(|across| {
+            let (low, high) = shadow(across, &corners);
+            Face { across, low, high }
+        });
+        let thick = |face: &Face| face.high - face.low > ROUNDING * farthest(face.across, &corners);
+        let solid = faces.iter().all(thick);
+        Cell { from, corners, edges, faces, solid }
+    }
+
+    /// Whether a triangle meets it. Most questions are settled at its faces: all corners are beyond one of them, or
+    /// a corner is behind all.
+    pub fn meets(&self, triangle: &Triangle) -> bool {
+        let corners = triangle.map(|corner| sub(corner, self.from));
+        if self.faces.iter().any(|face| self.keeps_out(face, &corners)) {
+            return false;
+        }
+        let apart = |direction: Point| shadows_apart(direction, &corners, &self.corners);
+        let edges = edges_of(&corners);
+        (self.solid && corners.iter().any(|corner| self.holds(*corner)))
+            || !(apart(cross(edges[0], edges[1])) || products(&edges, &self.edges).any(apart))
+    }
+
+    fn keeps_out(&self, face: &Face, corners: &Triangle) -> bool {
+        let (low, high) = shadow(face.across, corners);
+        let gap = (face.low - high).max(low - face.high);
+        gap > 0.0 && gap > ROUNDING * largest(face.across, corners, &self.corners)
+    }
+
+    fn holds(&self, point: Point) -> bool {
+        self.faces.iter().all(|face| (face.low..=face.high).contains(&dot(face.across, point)))
+    }
 }
 
 const UNITS: [Point; 3] = [[1.0, 0.0, 0.0], [0.0, 1.0, 0.0], [0.0, 0.0, 1.0]];
@@ -53,24 +110,25 @@ fn box_apart(direction: Point, corners: &Triangle, reach: Point, slack: Point) -
     let size = direction.map(f64::abs);
     let half = dot(size, reach);
     let (low, high) = shadow(direction, corners);
-    let farthest = corners.map(|corner| dot(size, corner.map(f64::abs)));
-    let most = farthest.into_iter().fold(half, f64::max) + dot(size, slack);
+    let most = farthest(direction, corners).max(half) + dot(size, slack);
     low.max(-high) - half > ROUNDING * most
 }
 
-/// Whether the shadows of two bodies are apart on a direction, seen from the triangle's first corner.
-fn shadows_apart(direction: Point, triangle: &Triangle, cell: &[Point; 4]) -> bool {
-    let from = triangle[0];
-    let (low, high) = shadow(direction, &triangle.map(|point| sub(point, from)));
-    let (cell_low, cell_high) = shadow(direction, &cell.map(|point| sub(point, from)));
-    let gap = (cell_low - high).max(low - cell_high);
-    gap > 0.0 && gap > ROUNDING * largest(direction, triangle, cell, from)
+/// Whether the shadows of two bodies are apart on a direction.
+fn shadows_apart(direction: Point, one: &[Point], other: &[Point]) -> bool {
+    let ((low, high), (least, most)) = (shadow(direction, one), shadow(direction, other));
+    let gap = (least - high).max(low - most);
+    gap > 0.0 && gap > ROUNDING * largest(direction, one, other)
 }
 
-fn largest(direction: Point, triangle: &Triangle, cell: &[Point; 4], from: Point) -> f64 {
+fn largest(direction: Point, one: &[Point], other: &[Point]) -> f64 {
+    farthest(direction, one).max(farthest(direction, other))
+}
+
+/// The most that is added up for the shadow of a point.
+fn farthest(direction: Point, points: &[Point]) -> f64 {
     let size = direction.map(f64::abs);
-    let points = triangle.iter().chain(cell);
-    points.fold(0.0, |most, point| most.max(dot(size, sub(*point, from).map(f64::abs))))
+    points.iter().fold(0.0, |most, point| most.max(dot(size, point.map(f64::abs))))
 }
 
 fn shadow(direction: Point, points: &[Point]) -> (f64, f64) {
@@ -90,6 +148,10 @@ mod tests {
     const CELL: [Point; 4] = [[0.0; 3], [1.0, 0.0, 0.0], [0.0, 1.0, 0.0], [0.0, 0.0, 1.0]];
     /// Far more than the rounding, far less than the bodies.
     const HAIR: f64 = 1e-9;
+
+    fn meets_tetrahedron(triangle: &Triangle, corners: &[Point; 4]) -> bool {
+        Cell::new(*corners).meets(triangle)
+    }
 
     fn moved(triangle: &Triangle, by: Point) -> Triangle {
         triangle.map(|[x, y, z]| [x + by[0], y + by[1], z + by[2]])
@@ -239,5 +301,31 @@ mod tests {
             crate::vector::length(outside)
         });
         gap.fold(f64::INFINITY, f64::min)
+    }
+
+    #[test]
+    fn triangles_meet_across_at_a_corner_and_in_one_plane() {
+        let own = [[0.0; 3], [4.0, 0.0, 0.0], [0.0, 4.0, 0.0]];
+        let through = [[1.0, 1.0, -1.0], [1.0, 1.0, 1.0], [9.0, 9.0, 1.0]];
+        let at_corner = [[4.0, 0.0, 0.0], [5.0, 1.0, 2.0], [5.0, -1.0, 2.0]];
+        let in_plane = [[1.0, 1.0, 0.0], [9.0, 1.0, 0.0], [9.0, 9.0, 0.0]];
+        for other in [through, at_corner, in_plane, own] {
+            assert!(meets_triangle(&own, &other) && meets_triangle(&other, &own));
+        }
+        let above = moved(&own, [0.0, 0.0, HAIR]);
+        let beside = [[2.0 + HAIR, 2.0 + HAIR, 0.0], [9.0, 2.0, 0.0], [2.0, 9.0, 0.0]];
+        for other in [above, beside, moved(&through, [2.0, 2.0, 0.0])] {
+            assert!(!meets_triangle(&own, &other) && !meets_triangle(&other, &own));
+        }
+    }
+
+    #[test]
+    fn a_flat_cell_is_missed_beyond_its_rim() {
+        let flat_cell = [[0.0; 3], [1.0, 0.0, 0.0], [0.0, 1.0, 0.0], [1.0, 1.0, 0.0]];
+        let standing = [[0.5, 0.5, -1.0], [0.5, 0.6, 1.0], [0.6, 0.5, 1.0]];
+        assert!(meets_tetrahedron(&standing, &flat_cell));
+        assert!(!meets_tetrahedron(&moved(&standing, [3.0, 0.0, 0.0]), &flat_cell));
+        let point_cell = [[0.25; 3]; 4];
+        assert!(!meets_tetrahedron(&standing, &point_cell));
     }
 }

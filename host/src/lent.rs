@@ -55,27 +55,60 @@ mod boundary;
 
 use boundary::*;
 
-// Safety, of every call below: the library takes any contents and any lengths, reads and writes only
-// within the tables it is lent, and keeps none of them; each pointer goes with the length of its own slice.
+// C's own library, for `signals`: what a signal does, and sending one to the process itself.
+extern "C" {
+    fn signal(number: i32, action: usize) -> usize;
+    fn raise(number: i32) -> i32;
+}
+
+/// A signal's action before anyone asked for another, and that of a signal that is not heeded.
+const BY_DEFAULT: usize = 0;
+const IGNORED: usize = 1;
+
+/// Lets the function answer a signal, unless the process was started not to heed it. The function may do no
+/// more than a signal's answer may: read and store atomics, and [`end_by_signal`].
+pub(crate) fn answer_signal(number: i32, by: extern "C" fn(i32)) {
+    // Safety: `by` is a function of the shape that C wants, and lives as long as the process.
+    unsafe {
+        if signal(number, by as *const () as usize) == IGNORED {
+            signal(number, IGNORED);
+        }
+    }
+}
+
+/// Ends the process as the signal does when nobody answers it.
+pub(crate) fn end_by_signal(number: i32) {
+    // Safety: both may be called at any time, from a signal's answer too.
+    unsafe {
+        signal(number, BY_DEFAULT);
+        raise(number);
+    }
+}
+
+/// Calls a function of the header: numbers first, then the tables it reads, then those it writes, each as its pointer
+/// and its length.
+macro_rules! call {
+    ($function:expr; $($number:expr),*; $($read:ident),*; $($written:ident),*) => {
+        // Safety: the library takes any contents and any lengths, reads and writes only within the tables it is
+        // lent, and keeps none of them; each pointer goes with the length of its own slice.
+        unsafe {
+            $function(
+                $($number,)*
+                $($read.as_ptr(), $read.len(),)*
+                $($written.as_mut_ptr(), $written.len()),*
+            )
+        }
+    };
+}
 
 /// `sf_plan`.
 pub fn plan(bounds: Bounds, cell: f32, levels: u32) -> Planned {
-    unsafe { sf_plan(bounds, cell, levels) }
+    call!(sf_plan; bounds, cell, levels; ;)
 }
 
 /// `sf_refine`.
 pub fn refine(bounds: Bounds, cell: f32, levels: u32, crossing: &[u8], split: &mut [u8]) -> Answer {
-    unsafe {
-        sf_refine(
-            bounds,
-            cell,
-            levels,
-            crossing.as_ptr(),
-            crossing.len(),
-            split.as_mut_ptr(),
-            split.len(),
-        )
-    }
+    call!(sf_refine; bounds, cell, levels; crossing; split)
 }
 
 /// `sf_grid`.
@@ -90,23 +123,7 @@ pub fn grid(
     points: &mut [f32],
     work: &mut [u64],
 ) -> Answer {
-    unsafe {
-        sf_grid(
-            bounds,
-            cell,
-            levels,
-            split.as_ptr(),
-            split.len(),
-            cells.as_mut_ptr(),
-            cells.len(),
-            triples.as_mut_ptr(),
-            triples.len(),
-            points.as_mut_ptr(),
-            points.len(),
-            work.as_mut_ptr(),
-            work.len(),
-        )
-    }
+    call!(sf_grid; bounds, cell, levels; split; cells, triples, points, work)
 }
 
 /// `sf_representatives`.
@@ -118,22 +135,7 @@ pub fn representatives(
     centroids: &mut [f32],
     work: &mut [u32],
 ) -> Answer {
-    unsafe {
-        sf_representatives(
-            points.as_ptr(),
-            points.len(),
-            cells.as_ptr(),
-            cells.len(),
-            crossing.as_ptr(),
-            crossing.len(),
-            numbers.as_mut_ptr(),
-            numbers.len(),
-            centroids.as_mut_ptr(),
-            centroids.len(),
-            work.as_mut_ptr(),
-            work.len(),
-        )
-    }
+    call!(sf_representatives; ; points, cells, crossing; numbers, centroids, work)
 }
 
 /// `sf_keep_cover`.
@@ -148,25 +150,7 @@ pub fn keep_cover(
     kept_cells: &mut [u32],
     work: &mut [u32],
 ) -> Answer {
-    unsafe {
-        sf_keep_cover(
-            cell,
-            points.as_ptr(),
-            points.len(),
-            cells.as_ptr(),
-            cells.len(),
-            crossing.as_ptr(),
-            crossing.len(),
-            probe.as_ptr(),
-            probe.len(),
-            kept_points.as_mut_ptr(),
-            kept_points.len(),
-            kept_cells.as_mut_ptr(),
-            kept_cells.len(),
-            work.as_mut_ptr(),
-            work.len(),
-        )
-    }
+    call!(sf_keep_cover; cell; points, cells, crossing, probe; kept_points, kept_cells, work)
 }
 
 /// `sf_keep_crust`.
@@ -179,129 +163,35 @@ pub fn keep_crust(
     kept_cells: &mut [u32],
     work: &mut [u32],
 ) -> Answer {
-    unsafe {
-        sf_keep_crust(
-            cell,
-            points.as_ptr(),
-            points.len(),
-            cells.as_ptr(),
-            cells.len(),
-            crossing.as_ptr(),
-            crossing.len(),
-            kept_points.as_mut_ptr(),
-            kept_points.len(),
-            kept_cells.as_mut_ptr(),
-            kept_cells.len(),
-            work.as_mut_ptr(),
-            work.len(),
-        )
-    }
+    call!(sf_keep_crust; cell; points, cells, crossing; kept_points, kept_cells, work)
 }
 
 /// `sf_components`.
 pub fn components(points: &[f32], cells: &[u32], numbers: &mut [u32], work: &mut [u32]) -> Answer {
-    unsafe {
-        sf_components(
-            points.as_ptr(),
-            points.len(),
-            cells.as_ptr(),
-            cells.len(),
-            numbers.as_mut_ptr(),
-            numbers.len(),
-            work.as_mut_ptr(),
-            work.len(),
-        )
-    }
+    call!(sf_components; ; points, cells; numbers, work)
 }
 
 /// `sf_one_piece`.
 pub fn one_piece(points: &[f32], cells: &[u32], work: &mut [u32]) -> Answer {
-    unsafe {
-        sf_one_piece(
-            points.as_ptr(),
-            points.len(),
-            cells.as_ptr(),
-            cells.len(),
-            work.as_mut_ptr(),
-            work.len(),
-        )
-    }
-}
-
-type Writer = unsafe extern "C" fn(
-    *const f32,
-    usize,
-    *const u32,
-    usize,
-    *mut u8,
-    usize,
-    *mut u32,
-    usize,
-) -> Answer;
-
-fn write(by: Writer, points: &[f32], cells: &[u32], file: &mut [u8], work: &mut [u32]) -> Answer {
-    unsafe {
-        by(
-            points.as_ptr(),
-            points.len(),
-            cells.as_ptr(),
-            cells.len(),
-            file.as_mut_ptr(),
-            file.len(),
-            work.as_mut_ptr(),
-            work.len(),
-        )
-    }
-}
-
-type Reader = unsafe extern "C" fn(
-    *const u8,
-    usize,
-    *mut f32,
-    usize,
-    *mut u32,
-    usize,
-    *mut u32,
-    usize,
-) -> Answer;
-
-fn read(
-    by: Reader,
-    file: &[u8],
-    points: &mut [f32],
-    cells: &mut [u32],
-    work: &mut [u32],
-) -> Answer {
-    unsafe {
-        by(
-            file.as_ptr(),
-            file.len(),
-            points.as_mut_ptr(),
-            points.len(),
-            cells.as_mut_ptr(),
-            cells.len(),
-            work.as_mut_ptr(),
-            work.len(),
-        )
-    }
+    call!(sf_one_piece; ; points, cells; work)
 }
 
 /// `sf_write_mesh`.
 pub fn write_mesh(points: &[f32], cells: &[u32], file: &mut [u8], work: &mut [u32]) -> Answer {
-    write(sf_write_mesh, points, cells, file, work)
+    call!(sf_write_mesh; ; points, cells; file, work)
 }
 
 /// `sf_read_mesh`.
 pub fn read_mesh(file: &[u8], points: &mut [f32], cells: &mut [u32], work: &mut [u32]) -> Answer {
-    read(sf_read_mesh, file, points, cells, work)
+    call!(sf_read_mesh; ; file; points, cells, work)
 }
 
 /// `sf_write_vtk`.
 pub fn write_vtk(points: &[f32], cells: &[u32], file: &mut [u8], work: &mut [u32]) -> Answer {
-    write(sf_write_vtk, points, cells, file, work)
+    call!(sf_write_vtk; ; points, cells; file, work)
 }
 
 /// `sf_read_vtk`.
 pub fn read_vtk(file: &[u8], points: &mut [f32], cells: &mut [u32], work: &mut [u32]) -> Answer {
-    read(sf_read_vtk, file, points, cells, work)
+    call!(sf_read_vtk; ; file; points, cells, work)
 }

@@ -20,22 +20,35 @@
 //! # Ok::<(), sporeferry::Refusal>(())
 //! ```
 
+pub mod advice;
 mod answers;
+mod corners;
 pub mod cover;
+mod crossed;
 pub mod crossing;
+pub mod edges;
 mod grid;
-pub mod inside;
+mod joined;
+pub mod json;
+pub mod kinds;
 pub mod lent;
 mod mesh;
 pub mod part;
 mod plan;
-mod progress;
+pub mod progress;
+pub mod quality;
+mod ray;
 mod refusal;
+pub mod sha256;
+pub mod shells;
+pub mod signals;
+pub mod spacing;
 pub mod stl;
 pub mod surface;
 #[cfg(test)]
 mod testing;
 mod vector;
+pub mod weld;
 pub mod whole_file;
 
 pub use grid::{Grid, Kept, Representative};

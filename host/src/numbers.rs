@@ -22,6 +22,15 @@ pub fn measure(value: f64) -> String {
     format!("{value:.*}", 5usize.saturating_sub(whole))
 }
 
+/// A number of bytes, to three digits or so.
+pub fn bytes_in_words(bytes: u64) -> String {
+    match bytes {
+        0..10_000_000 => format!("{:.1} MB", bytes as f64 / 1e6),
+        10_000_000..1_000_000_000 => format!("{} MB", bytes / 1_000_000),
+        _ => format!("{:.1} GB", bytes as f64 / 1e9),
+    }
+}
+
 #[cfg(test)]
 mod tests {
     use super::*;

@@ -1,28 +1,41 @@
-//! A part to be meshed: its surface, its box, and whether the surface is closed.
+//! A part to be meshed: its surface, its box, where it is open and, if it is closed, its shells.
 
-use crate::inside::open_edges;
+use crate::corners::Corners;
+use crate::edges::{Edges, Openings};
 use crate::plan::Bounds;
+use crate::progress::staged;
+use crate::shells::Shells;
 use crate::stl::{parse, Facet, StlError};
 use crate::surface::Surface;
 
 pub struct Part {
     pub surface: Surface,
     pub bounds: Bounds,
-    /// Edges at which the surface is open or turns over; 0 if it is closed.
-    pub open_edges: usize,
+    pub openings: Openings,
+    /// Of a closed surface.
+    pub shells: Option<Shells>,
 }
 
 impl Part {
-    pub fn new(triangles: &[Facet]) -> Self {
+    pub fn new(facets: Vec<Facet>) -> Self {
+        let (surface, corners, edges) = staged("surface", || {
+            let surface = Surface::new(facets);
+            let corners = Corners::new(surface.facets());
+            let edges = Edges::new(&corners);
+            (surface, corners, edges)
+        });
+        let openings = edges.openings(&corners);
+        let closed = openings.edges.is_empty();
         Part {
-            surface: Surface::new(triangles),
-            bounds: Bounds::around(triangles.as_flattened()).unwrap_or_default(),
-            open_edges: open_edges(triangles),
+            bounds: Bounds::around(&corners.points).unwrap_or_default(),
+            shells: closed.then(|| Shells::new(&surface, &corners, &edges)),
+            surface,
+            openings,
         }
     }
 
     /// The part of an STL file's bytes.
     pub fn from_stl(file: &[u8]) -> Result<Self, StlError> {
-        parse(file).map(|triangles| Part::new(&triangles))
+        parse(file).map(Part::new)
     }
 }

@@ -134,6 +134,35 @@ impl Plan {
         rooms.grid(self, split)
     }
 
+    /// How many cells the grid under a split table has: the grid is asked without room for any.
+    pub fn cells(&self, split: &[u8]) -> Result<u64, Refusal> {
+        match Rooms::default().grid(self, split) {
+            Err(short) if short.number == 9 => Ok(short.values[0]),
+            told => told.map(|grid| grid.cells.len() as u64),
+        }
+    }
+
+    /// Where a vertex of the grid stands.
+    ///
+    /// ```
+    /// use sporeferry::{Bounds, Plan};
+    /// let plan = Plan::new(Bounds { min: [0.1; 3], max: [0.7; 3] }, 0.3, 1).unwrap();
+    /// let grid = plan.grid(&vec![0; plan.octants()]).unwrap();
+    /// let points: Vec<[f32; 3]> = grid.triples.iter().map(|triple| plan.point(*triple)).collect();
+    /// assert_eq!(points, grid.points);
+    /// ```
+    pub fn point(&self, triple: [u32; 3]) -> [f32; 3] {
+        std::array::from_fn(|axis| self.origin[axis] + triple[axis] as f32 * self.half)
+    }
+
+    /// The far corner, in whole units from the origin.
+    pub fn far(&self) -> [u32; 3] {
+        match self.levels {
+            0 => self.dims,
+            levels => self.dims.map(|dim| dim * (2 << levels)),
+        }
+    }
+
     /// Octants along each axis of a level.
     pub fn count(&self, level: u32) -> [u32; 3] {
         self.dims.map(|dim| dim << (self.levels - level))

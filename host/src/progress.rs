@@ -1,58 +1,110 @@
-//! How far long work has come, on a terminal's standard error and nowhere else.
+//! How far long work has come, on standard error: a line that moves on a terminal, else one line a stage.
 
 use std::io::{stderr, IsTerminal, Write};
-use std::sync::Mutex;
-use std::time::{Duration, Instant};
+use std::sync::atomic::{AtomicBool, AtomicUsize, Ordering::Relaxed};
+use std::sync::{Arc, Condvar, Mutex};
+use std::thread::{self, JoinHandle};
+use std::time::Duration;
 
-/// Work shorter than this shows nothing.
-const QUIET: Duration = Duration::from_millis(500);
+/// A stage shorter than this shows nothing: on a terminal, and elsewhere.
+const SHORT: Duration = Duration::from_millis(500);
+const SHORT_ELSEWHERE: Duration = Duration::from_secs(2);
 const BETWEEN: Duration = Duration::from_millis(100);
 
-/// One stage of work: how many of its items are done. The line is cleared when the stage ends.
-pub struct Progress {
+static SILENT: AtomicBool = AtomicBool::new(false);
+
+/// Shows nothing from now on.
+pub fn be_silent() {
+    SILENT.store(true, Relaxed);
+}
+
+/// Does one step of work as a stage.
+pub fn staged<T>(label: &'static str, work: impl FnOnce() -> T) -> T {
+    let _stage = Stage::new(label);
+    work()
+}
+
+/// One stage of work, shown from beside it if it takes long. The line is cleared when the stage ends.
+pub struct Stage {
+    shared: Arc<Shared>,
+    watcher: Option<JoinHandle<()>>,
+}
+
+struct Shared {
     label: &'static str,
+    /// 0 where it is not counted.
     total: usize,
-    state: Option<Mutex<State>>,
+    done: AtomicUsize,
+    ended: Mutex<bool>,
+    end: Condvar,
 }
 
-struct State {
-    done: usize,
-    next: Instant,
-    shown: bool,
-}
+impl Stage {
+    /// A stage that is one step.
+    pub fn new(label: &'static str) -> Self {
+        Stage::counted(label, 0)
+    }
 
-impl Progress {
-    /// A stage that is shown if standard error is a terminal.
-    pub fn new(label: &'static str, total: usize) -> Self {
-        let state = stderr()
-            .is_terminal()
-            .then(|| Mutex::new(State { done: 0, next: Instant::now() + QUIET, shown: false }));
-        Progress { label, total, state }
+    /// A stage of so many items.
+    pub fn counted(label: &'static str, total: usize) -> Self {
+        let (done, ended, end) = (AtomicUsize::new(0), Mutex::new(false), Condvar::new());
+        let shared = Arc::new(Shared { label, total, done, ended, end });
+        let watched = Arc::clone(&shared);
+        let watch = || thread::Builder::new().spawn(move || watched.watch()).ok();
+        let watcher = if SILENT.load(Relaxed) { None } else { watch() };
+        Stage { shared, watcher }
     }
 
     /// So many more items are done.
     pub fn advance(&self, items: usize) {
-        let Some(Ok(mut state)) = self.state.as_ref().map(Mutex::lock) else {
-            return;
-        };
-        state.done += items;
-        if Instant::now() < state.next {
-            return;
-        }
-        state.next = Instant::now() + BETWEEN;
-        state.shown = true;
-        let percent = 100.0 * state.done as f64 / self.total.max(1) as f64;
-        let _ = write!(stderr(), "\r\x1b[K{}: {percent:.0} %", self.label);
-        let _ = stderr().flush();
+        self.shared.done.fetch_add(items, Relaxed);
     }
 }
 
-impl Drop for Progress {
+impl Drop for Stage {
     fn drop(&mut self) {
-        if let Some(Ok(state)) = self.state.as_ref().map(Mutex::lock) {
-            if state.shown {
-                let _ = write!(stderr(), "\r\x1b[K");
+        if let Ok(mut ended) = self.shared.ended.lock() {
+            *ended = true;
+        }
+        self.shared.end.notify_all();
+        if let Some(watcher) = self.watcher.take() {
+            let _ = watcher.join();
+        }
+    }
+}
+
+impl Shared {
+    fn watch(&self) {
+        let terminal = stderr().is_terminal();
+        if self.ends_within(if terminal { SHORT } else { SHORT_ELSEWHERE }) {
+            return;
+        }
+        if !terminal {
+            let _ = writeln!(stderr(), "sporeferry: {} ...", self.label);
+            return;
+        }
+        while !self.ends_within(BETWEEN) {
+            let _ = write!(stderr(), "\r\x1b[K{}", self.line());
+        }
+        let _ = write!(stderr(), "\r\x1b[K");
+    }
+
+    fn line(&self) -> String {
+        match self.total {
+            0 => format!("{} ...", self.label),
+            total => {
+                let percent = 100.0 * self.done.load(Relaxed) as f64 / total as f64;
+                format!("{}: {percent:.0} %", self.label)
             }
         }
+    }
+
+    /// Waits so long, or until the stage ends; whether it has ended.
+    fn ends_within(&self, time: Duration) -> bool {
+        let Ok(ended) = self.ended.lock() else {
+            return true;
+        };
+        let waited = self.end.wait_timeout_while(ended, time, |ended| !*ended);
+        waited.map_or(true, |(ended, _)| *ended)
     }
 }

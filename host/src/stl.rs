@@ -54,7 +54,7 @@ const RECORD: usize = 50;
 /// The triangles of an STL file, at least one, all coordinates finite.
 pub fn parse(file: &[u8]) -> Result<Vec<Facet>, StlError> {
     let triangles = match announced(file) {
-        Some(count) if file.len() as u64 == length_of(count) => binary(file),
+        _ if is_whole_binary(file) => binary(file),
         _ if is_text(file) => text(file)?,
         Some(announced) => {
             let bytes = file.len();
@@ -81,6 +81,11 @@ pub fn to_bytes(triangles: &[Facet]) -> Vec<u8> {
         file.extend([0; 2]);
     }
     file
+}
+
+/// Whether a file has exactly the length that its count of triangles asks for.
+pub fn is_whole_binary(file: &[u8]) -> bool {
+    announced(file).is_some_and(|count| file.len() as u64 == length_of(count))
 }
 
 fn announced(file: &[u8]) -> Option<u32> {

@@ -4,8 +4,8 @@ pub type Point = [f64; 3];
 pub type Triangle = [Point; 3];
 
 /// An f32 point in f64; nothing is lost.
-pub fn wide(point: [f32; 3]) -> Point {
-    point.map(f64::from)
+pub fn wide([x, y, z]: [f32; 3]) -> Point {
+    [f64::from(x), f64::from(y), f64::from(z)]
 }
 
 pub fn sub(a: Point, b: Point) -> Point {
@@ -24,8 +24,19 @@ pub fn length(a: Point) -> f64 {
     dot(a, a).sqrt()
 }
 
+/// The mean of some points.
+pub fn middle(points: &[Point]) -> Point {
+    std::array::from_fn(|axis| points.iter().map(|p| p[axis]).sum::<f64>() / points.len() as f64)
+}
+
+/// The volume of the tetrahedron from a point to a triangle, with its sign.
+pub fn cone(from: Point, triangle: &Triangle) -> f64 {
+    let [a, b, c] = triangle.map(|corner| sub(corner, from));
+    dot(a, cross(b, c)) / 6.0
+}
+
 /// The least box around points.
-pub fn box_of(points: &[Point]) -> (Point, Point) {
+pub fn box_of<'a>(points: impl IntoIterator<Item = &'a Point>) -> (Point, Point) {
     let mut low = [f64::INFINITY; 3];
     let mut high = [f64::NEG_INFINITY; 3];
     for point in points {

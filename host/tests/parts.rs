@@ -3,13 +3,13 @@
 mod shapes;
 
 use sporeferry::cover::{cover, CoverError, Covered, Request};
-use sporeferry::crossing::meets_tetrahedron;
-use sporeferry::inside::{enclosed_volume, is_inside};
+use sporeferry::crossing::Cell;
 use sporeferry::part::Part;
+use sporeferry::stl::Facet;
 use sporeferry::Mesh;
 
 fn covered(part: &Part, cell: f32, levels: u32) -> Covered {
-    let request = Request { cell, levels, crust: false };
+    let request = Request { cell, levels, ..Request::default() };
     cover(part, request).unwrap()
 }
 
@@ -17,8 +17,7 @@ fn covered(part: &Part, cell: f32, levels: u32) -> Covered {
 /// mesh is one piece that reads back from its file, and holds more than the part; what it has
 /// beyond the part nearly halves each time.
 fn comes_down(part: &Part, steps: &[(f32, u32)]) {
-    assert_eq!(part.open_edges, 0);
-    let volume = enclosed_volume(part.surface.triangles());
+    let volume = part.shells.as_ref().unwrap().inside.unwrap();
     let mut before = f64::INFINITY;
     for (cell, levels) in steps {
         let covered = covered(part, *cell, *levels);
@@ -33,14 +32,14 @@ fn comes_down(part: &Part, steps: &[(f32, u32)]) {
 
 #[test]
 fn a_sphere() {
-    let part = Part::new(&shapes::sphere(10.0));
+    let part = Part::new(shapes::sphere(10.0));
     comes_down(&part, &[(8.0, 0), (4.0, 0), (2.0, 0), (1.0, 0)]);
     comes_down(&part, &[(4.0, 0), (4.0, 1), (4.0, 2), (4.0, 3)]);
 }
 
 #[test]
 fn a_torus() {
-    let part = Part::new(&shapes::torus(10.0, 4.0));
+    let part = Part::new(shapes::torus(10.0, 4.0));
     comes_down(&part, &[(4.0, 0), (2.0, 0), (1.0, 0)]);
     comes_down(&part, &[(4.0, 1), (4.0, 2), (4.0, 3)]);
 }
@@ -52,15 +51,37 @@ fn the_socket() {
     comes_down(&part, &[(12.0, 0), (6.0, 0), (6.0, 1), (6.0, 2)]);
 }
 
+fn moved(facets: &[Facet], by: f32) -> Vec<Facet> {
+    facets.iter().map(|facet| facet.map(|corner| corner.map(|x| x + by))).collect()
+}
+
 #[test]
-fn a_part_is_covered_wherever_it_stands() {
-    let moved = |by: f32| {
-        let place = |point: [f32; 3]| point.map(|x| x + by);
-        let sphere = shapes::sphere(10.0);
-        Part::new(&sphere.iter().map(|t| t.map(place)).collect::<Vec<_>>())
-    };
+fn a_part_is_covered_wherever_it_stands_unless_it_is_too_far() {
+    let sphere = shapes::sphere(10.0);
     for by in [-1000.0, 0.37, 4096.0] {
-        comes_down(&moved(by), &[(4.0, 1), (4.0, 2)]);
+        comes_down(&Part::new(moved(&sphere, by)), &[(4.0, 1), (4.0, 2)]);
+    }
+    let far = Part::new(moved(&sphere, 4.5e7));
+    let request = Request { cell: 4.0, levels: 2, ..Request::default() };
+    assert!(matches!(cover(&far, request), Err(CoverError::TooFar(_))));
+}
+
+/// Every cell against every triangle, without tree, boxes or branches; lattice and octree.
+#[test]
+fn cells_are_crossed_as_each_by_itself() {
+    let part = Part::new(moved(&shapes::torus(10.0, 4.0), 0.1));
+    for (cell, levels) in [(2.3, 0), (4.1, 1), (6.0, 3)] {
+        let crust =
+            cover(&part, Request { cell, levels, crust: true, ..Request::default() }).unwrap();
+        let request = Request { cell, levels, ..Request::default() };
+        let whole = cover(&part, request).unwrap();
+        assert_eq!(crust.cells.crossed, whole.cells.crossed);
+        let surface = &part.surface;
+        let crossed = whole.mesh.cells.iter().filter(|cell| {
+            let cell = Cell::new(corners(&whole.mesh, cell));
+            (0..surface.facets().len()).any(|n| cell.meets(&surface.triangle(n)))
+        });
+        assert_eq!(crossed.count(), whole.cells.crossed);
     }
 }
 
@@ -69,14 +90,15 @@ fn a_part_is_covered_wherever_it_stands() {
 fn the_surface_lies_in_the_cover() {
     let torus = shapes::torus(10.0, 4.0);
     for (cell, levels) in [(3.0, 0), (4.0, 1)] {
-        let mesh = covered(&Part::new(&torus), cell, levels).mesh;
-        let kept: Vec<[[f64; 3]; 4]> = mesh.cells.iter().map(|cell| corners(&mesh, cell)).collect();
+        let mesh = covered(&Part::new(torus.clone()), cell, levels).mesh;
+        let kept: Vec<Cell> =
+            mesh.cells.iter().map(|cell| Cell::new(corners(&mesh, cell))).collect();
         for triangle in torus.iter().step_by(5) {
             let wide = triangle.map(|corner| corner.map(f64::from));
             let middle =
                 std::array::from_fn(|k| wide.iter().map(|corner| corner[k]).sum::<f64>() / 3.0);
             for point in [wide[0], middle] {
-                assert!(kept.iter().any(|cell| meets_tetrahedron(&[point; 3], cell)));
+                assert!(kept.iter().any(|cell| cell.meets(&[point; 3])));
             }
         }
     }
@@ -91,7 +113,7 @@ fn a_cavity_stays_empty() {
     let mut shell = shapes::sphere(10.0);
     let cavity = shapes::sphere(6.0);
     shell.extend(cavity.iter().map(|[a, b, c]| [*a, *c, *b]));
-    let part = Part::new(&shell);
+    let part = Part::new(shell);
     let hollow = covered(&part, 2.0, 1);
     assert_eq!((hollow.cells.groups, hollow.cells.inside), (3, 1));
     let middle = centroids(&hollow.mesh).filter(|point| point.iter().all(|x| x.abs() < 2.0));
@@ -108,14 +130,14 @@ fn centroids(mesh: &Mesh) -> impl Iterator<Item = [f64; 3]> + '_ {
 /// Kept or not as each cell deserves: crossed, or inside by its own centroid.
 #[test]
 fn one_probe_for_a_group_is_as_good_as_one_for_each_cell() {
-    let part = Part::new(&shapes::torus(10.0, 4.0));
+    let part = Part::new(shapes::torus(10.0, 4.0));
     let surface = &part.surface;
     let plan = sporeferry::Plan::new(part.bounds, 2.0, 0).unwrap();
     let grid = plan.grid(&[]).unwrap();
     let whole = Mesh { points: grid.points.clone(), cells: grid.cells.clone() };
     let deserved = centroids(&whole).zip(&grid.cells).filter(|(centroid, cell)| {
-        let crossed = surface.crosses_tetrahedron(&corners(&whole, cell));
-        crossed || is_inside(surface.triangles(), *centroid)
+        let crossed = surface.crosses_cell(surface.all(), corners(&whole, cell));
+        crossed || surface.winding(*centroid) != 0
     });
     let covered = covered(&part, 2.0, 0);
     assert_eq!(covered.dropped, 0);
@@ -125,22 +147,26 @@ fn one_probe_for_a_group_is_as_good_as_one_for_each_cell() {
 #[test]
 fn a_crust_is_hollow_and_needs_no_closed_surface() {
     let sphere = shapes::sphere(10.0);
-    let request = |crust| Request { cell: 2.0, levels: 1, crust };
-    let closed = Part::new(&sphere);
+    let request = |crust| Request { cell: 2.0, levels: 1, crust, allow_dropped: false };
+    let closed = Part::new(sphere.clone());
     let crust = cover(&closed, request(true)).unwrap();
     assert_eq!(crust.mesh.cells.len(), crust.cells.crossed);
     assert!(crust.mesh.volume() < cover(&closed, request(false)).unwrap().mesh.volume());
 
-    let open = Part::new(&sphere[1..]);
+    let open = Part::new(sphere[1..].to_vec());
     assert!(cover(&open, request(true)).is_ok());
-    assert_eq!(cover(&open, request(false)).unwrap_err(), CoverError::Open(3));
+    assert!(open.shells.is_none());
+    let Err(CoverError::Open(openings)) = cover(&open, request(false)) else {
+        panic!("an open surface has no inside");
+    };
+    assert_eq!((openings.edges.len(), openings.holes), (3, 1));
 }
 
 #[test]
 fn refusals_of_the_library_come_through() {
-    let part = Part::new(&shapes::sphere(10.0));
+    let part = Part::new(shapes::sphere(10.0));
     let number = |cell, levels| {
-        let request = Request { cell, levels, crust: false };
+        let request = Request { cell, levels, ..Request::default() };
         match cover(&part, request) {
             Err(CoverError::Refused(refusal)) => refusal.number,
             _ => 0,

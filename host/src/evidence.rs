@@ -1,0 +1,149 @@
+//! The file beside a mesh that tells how it came about, so that its figures can be signed for.
+
+use crate::arguments::CoverOrder;
+use crate::help::VERSION;
+use crate::source::Source;
+use sporeferry::cover::Covered;
+use sporeferry::json::Json;
+use sporeferry::sha256::checksum;
+use sporeferry::shells::{Kind, Shells};
+use std::fs;
+use std::path::{Path, PathBuf};
+
+/// Where the evidence of a mesh file stands.
+pub fn beside(mesh: &Path) -> PathBuf {
+    let mut name = mesh.as_os_str().to_os_string();
+    name.push(".json");
+    name.into()
+}
+
+/// How the mesh in these bytes came about.
+pub fn of_cover(order: &CoverOrder, source: &Source, covered: &Covered, file: &[u8]) -> Json {
+    let Covered { plan, octants, cells, mesh, .. } = covered;
+    Json::object([
+        ("tool", format!("sporeferry {VERSION}").into()),
+        ("options", options(order)),
+        ("part", of_part(source)),
+        (
+            "plan",
+            Json::object([
+                ("origin", Json::list(plan.origin())),
+                ("unit", plan.half().into()),
+                ("dims", Json::list(plan.dims())),
+                ("octants", plan.octants().into()),
+                ("steps", Json::list([covered.steps.least, covered.steps.greatest])),
+            ]),
+        ),
+        (
+            "octants",
+            Json::object([
+                ("asked", octants.asked.into()),
+                ("crossed", octants.crossed.into()),
+                ("split", octants.split.into()),
+            ]),
+        ),
+        (
+            "cells",
+            Json::object([
+                ("all", cells.all.into()),
+                ("crossed", cells.crossed.into()),
+                ("groups", cells.groups.into()),
+                ("inside", cells.inside.into()),
+            ]),
+        ),
+        (
+            "mesh",
+            Json::object([
+                ("file", named(&order.output)),
+                ("bytes", file.len().into()),
+                ("sha256", checksum(file).into()),
+                ("points", mesh.points.len().into()),
+                ("cells", mesh.cells.len().into()),
+                ("dropped", covered.dropped.into()),
+                ("pieces", covered.pieces.into()),
+                ("volume", mesh.volume().into()),
+            ]),
+        ),
+    ])
+}
+
+fn options(order: &CoverOrder) -> Json {
+    Json::object([
+        ("cell", order.request.cell.into()),
+        ("levels", order.request.levels.into()),
+        ("crust", order.request.crust.into()),
+        ("weld", order.part.weld.into()),
+        ("move_to_origin", order.part.move_to_origin.into()),
+        ("allow_dropped", order.request.allow_dropped.into()),
+    ])
+}
+
+/// What was read of a part.
+pub fn of_part(source: &Source) -> Json {
+    let welded = source.welded.map(|welded| {
+        Json::object([
+            ("joined", welded.joined.into()),
+            ("farthest", welded.farthest.into()),
+            ("removed", welded.removed.into()),
+        ])
+    });
+    let part = &source.part;
+    Json::object([
+        ("file", named(&source.file)),
+        ("sha256", source.sha256.as_str().into()),
+        ("triangles", part.surface.facets().len().into()),
+        ("welded", welded.into()),
+        ("moved_by", source.moved_by.map(Json::list).into()),
+        ("box", Json::List([part.bounds.min, part.bounds.max].map(Json::list).into())),
+        ("open_edges", part.openings.edges.len().into()),
+        ("holes", part.openings.holes.into()),
+        ("shells", part.shells.as_ref().map(of_shells).into()),
+        ("volume_inside", part.shells.as_ref().and_then(|shells| shells.inside).into()),
+    ])
+}
+
+fn of_shells(shells: &Shells) -> Json {
+    let mut entries = vec![("all".to_string(), shells.kinds.len().into())];
+    entries.extend(NAMES.map(|(kind, name, _)| {
+        let count = shells.kinds.iter().filter(|own| **own == kind).count();
+        (name.replace(' ', "_"), count.into())
+    }));
+    let meeting = shells.meeting.map_or(0, |(_, count)| count);
+    entries.push(("meeting_triangles".to_string(), meeting.into()));
+    Json::Object(entries)
+}
+
+/// Each kind of shell, its name, and what is to be known of it.
+pub const NAMES: [(Kind, &str, &str); 6] = [
+    (Kind::Outward, "outward", ""),
+    (Kind::Cavity, "cavity", ""),
+    (Kind::InsideOut, "inside out", " (what is in it counts as inside all the same)"),
+    (Kind::Doubled, "doubled", " (each triangle is there more than once)"),
+    (Kind::Within, "within", " (the same on both sides, so that it bounds nothing)"),
+    (Kind::Mixed, "mixed", " (turned differently in places)"),
+];
+
+fn named(path: &Path) -> Json {
+    path.to_string_lossy().into_owned().into()
+}
+
+/// What the evidence beside a mesh file says of it: a line, or what does not agree. `None` if there is none.
+pub fn check(mesh: &Path, bytes: &[u8]) -> Option<Result<String, String>> {
+    let path = beside(mesh);
+    let text = fs::read_to_string(&path).ok()?;
+    let name = path.display();
+    let Ok(evidence) = Json::parse(&text) else {
+        return Some(Err(format!("{name} is no JSON")));
+    };
+    let noted = |of: [&str; 2]| evidence.at(&of).and_then(Json::text).map(String::from);
+    if noted(["mesh", "sha256"]) != Some(checksum(bytes)) {
+        return Some(Err(format!("{name} is of another mesh: the checksums differ")));
+    }
+    let part = noted(["part", "file"]).unwrap_or_default();
+    let now = fs::read(&part).ok().map(|bytes| checksum(&bytes));
+    Some(match now {
+        None => Ok(format!("{name} agrees; {part} is not there to be compared")),
+        now if now == noted(["part", "sha256"]) => Ok(format!("{name} agrees, and {part} too")),
+        _ => Err(format!("{name} agrees with the mesh, but {part} is not the part it came from")),
+    })
+}
