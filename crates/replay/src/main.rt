@@ -1,92 +1,214 @@
-// Replays a fixed sample of calls whose answers the lifted Rust gave. stdin holds the calls and a digest of what the Rust answered and left
-// in the tables; stdout is what is printed where nothing differs. Both are made by `oracle/sample`. A section of the tape is a step, the
-// number that it answers, how many calls there are, and the calls: the digest, the lengths of the tables, values, contents of the inputs.
-// Every other table is lent filled with 0xA5.
-mod digest;
-mod files;
-mod meshes;
-mod octrees;
-mod show;
-mod tape;
-
+// Replays a fixed sample of calls whose answers the lifted Rust gave: stdin is the tape (crate `tape`), stdout what is printed where
+// nothing differs. Both are made by `oracle/sample`.
 use libc::STDIN_FILENO;
-use tape::Played;
+use libc::STDOUT_FILENO;
+use plan::Bounds;
+use sporeferry::Answer;
+use sporeferry::PlanAnswer;
+use sporeferry::sf_components;
+use sporeferry::sf_grid;
+use sporeferry::sf_keep_cover;
+use sporeferry::sf_keep_crust;
+use sporeferry::sf_one_piece;
+use sporeferry::sf_plan;
+use sporeferry::sf_read_mesh;
+use sporeferry::sf_read_vtk;
+use sporeferry::sf_refine;
+use sporeferry::sf_representatives;
+use sporeferry::sf_write_mesh;
+use sporeferry::sf_write_vtk;
+use tape::Inputs;
+use tape::Lengths;
+use tape::ROOM;
+use tape::Section;
 
-fn room() -> [u8; 262_144] {
-    [0u8; 262_144]
+fn float(tape: &[u32], at: usize, i: usize) -> f32 {
+    float32::to_f32(tape::word(tape, at, i))
 }
 
-// Replays the call of a step whose lengths stand at a place of the tape.
-fn replay(tape: &[u8], step: u32, at: usize) -> Played {
-    match step {
-        0 => octrees::plan(tape, at),
-        1 => octrees::refine(tape, at),
-        2 => octrees::grid(tape, at),
-        3 => meshes::representatives(tape, at),
-        4 => meshes::keep(tape, at, true),
-        5 => meshes::keep(tape, at, false),
-        6 => meshes::components(tape, at, true),
-        7 => meshes::components(tape, at, false),
-        8 => files::write(tape, at, false),
-        9 => files::read(tape, at, false),
-        10 => files::write(tape, at, true),
-        _ => files::read(tape, at, true),
+// The box of a call.
+fn bounds_at(tape: &[u32], at: usize) -> Bounds {
+    Bounds {
+        x0: float(tape, at, 2),
+        y0: float(tape, at, 3),
+        z0: float(tape, at, 4),
+        x1: float(tape, at, 5),
+        y1: float(tape, at, 6),
+        z1: float(tape, at, 7),
     }
 }
 
-// How many calls of a section were replayed and how many differ, with the place after it.
+fn pattern(digest: u64, x: f32) -> u64 {
+    tape::number(digest, float32::from_f32(x) as u64)
+}
+
+fn word(digest: u64, x: u32) -> u64 {
+    tape::number(digest, x as u64)
+}
+
+// A digest of what is answered by value.
+fn told(a: Answer) -> u64 {
+    let first = tape::number(word(0, a.number), a.first);
+    tape::number(tape::number(first, a.second), a.third)
+}
+
+fn planned(a: PlanAnswer) -> u64 {
+    let x = pattern(word(0, a.number), a.ox);
+    let z = pattern(pattern(x, a.oy), a.oz);
+    let nx = word(pattern(z, a.half), a.nx);
+    word(word(word(nx, a.ny), a.nz), a.octants)
+}
+
+// Calls the step of a call and takes the digest of its answer: the first table of bytes on the tape is what the step calls crossing, split
+// or file, and tables are written in the order of the C function, bytes and long words apart.
+fn answered(
+    tape: &[u32],
+    bytes: &[u8],
+    at: usize,
+    first: &mut [u32],
+    second: &mut [u32],
+    third: &mut [u32],
+    small: &mut [u8],
+    long: &mut [u64],
+) -> u64 {
+    let bounds = bounds_at(tape, at);
+    let c = float(tape, at, 8);
+    let levels = tape::word(tape, at, 9);
+    let n = Inputs::at(tape, at);
+    let points = tape::table(tape, n.points);
+    let cells = tape::table(tape, n.cells);
+    let crossing = tape::byte_table(bytes, n.crossing);
+    let probe = tape::byte_table(bytes, n.probe);
+    let step = tape::word(tape, at, 1);
+    match step {
+        0 => planned(sf_plan(bounds, c, levels)),
+        1 => told(sf_refine(bounds, c, levels, crossing, small)),
+        2 => told(sf_grid(bounds, c, levels, crossing, first, second, third, long)),
+        3 => told(sf_representatives(points, cells, crossing, first, second, third)),
+        4 => told(sf_keep_cover(c, points, cells, crossing, probe, first, second, third)),
+        5 => told(sf_keep_crust(c, points, cells, crossing, first, second, third)),
+        6 => told(sf_components(points, cells, first, second)),
+        7 => told(sf_one_piece(points, cells, first)),
+        8 => told(sf_write_mesh(points, cells, small, first)),
+        9 => told(sf_read_mesh(crossing, first, second, third)),
+        10 => told(sf_write_vtk(points, cells, small, first)),
+        _ => told(sf_read_vtk(crossing, first, second, third)),
+    }
+}
+
+// The same, and of all that it leaves in the tables that it writes.
+fn digested(
+    tape: &[u32],
+    bytes: &[u8],
+    at: usize,
+    first: &mut [u32],
+    second: &mut [u32],
+    third: &mut [u32],
+    small: &mut [u8],
+    long: &mut [u64],
+) -> u64 {
+    let answer = answered(tape, bytes, at, first, second, third, small, long);
+    let d = tape::words(tape::words(tape::words(answer, first), second), third);
+    tape::longs(tape::bytes(d, small), long)
+}
+
+fn filled() -> [u32; ROOM] {
+    [0xA5A5_A5A5u32; ROOM]
+}
+
+// Makes a call, which finds the tables that it writes filled with 0xA5, and cut to their lengths.
+fn replay(tape: &[u32], bytes: &[u8], at: usize) -> u64 {
+    let mut first = filled();
+    let mut second = filled();
+    let mut third = filled();
+    let mut small = [0xA5u8; ROOM];
+    let mut long = [0xA5A5_A5A5_A5A5_A5A5u64; ROOM];
+    let n = Lengths::at(tape, at);
+    let a = n.first;
+    let b = n.second;
+    let c = n.third;
+    let s = n.bytes;
+    let l = n.longs;
+    digested(
+        tape,
+        bytes,
+        at,
+        &mut first[0..a],
+        &mut second[0..b],
+        &mut third[0..c],
+        &mut small[0..s],
+        &mut long[0..l],
+    )
+}
+
+// How many calls of a section differ, and the place after it.
 struct Tally {
     after: usize,
-    calls: usize,
-    differences: usize,
+    differences: u32,
 }
 
-// One more where a digest is not the one on the tape.
-fn counted(differences: usize, got: u64, expected: u32) -> usize {
-    if got == expected as u64 {
-        return differences;
-    }
-    tape::on(differences, 1)
-}
-
-fn replay_section(tape: &[u8], start: usize, step: u32, calls: u32) -> Tally {
+fn replay_section(tape: &[u32], bytes: &[u8], start: usize, calls: u32) -> Tally {
     let mut at = start;
-    let mut differences: usize = 0;
-    let mut done: usize = 0;
+    let mut differences: u32 = 0;
     for _ in 0..calls {
-        let played = replay(tape, step, tape::on(at, 1));
-        differences = counted(differences, played.digest, tape::word(tape, at));
-        at = played.after;
-        done = tape::on(done, 1);
+        if replay(tape, bytes, at) != tape::word(tape, at, 0) as u64 {
+            differences += 1;
+        }
+        at = Inputs::at(tape, at).after;
     }
     Tally {
         after: at,
-        calls: done,
         differences,
     }
 }
 
+fn text(s: &[u8]) {
+    io::write_all(STDOUT_FILENO, s);
+}
+
+fn number(n: u64) {
+    io::print_decimal(STDOUT_FILENO, n);
+}
+
+fn tell(name: &[u8], calls: u64, differences: u64) {
+    text(name);
+    text(b": ");
+    number(calls);
+    text(b" calls, ");
+    number(differences);
+    text(b" differences\n");
+}
+
 // Replays the sections of a tape, whose first word says how many they are.
-fn replay_all(tape: &[u8]) {
-    let sections = tape::word(tape, 0);
+fn replay_all(tape: &[u32], bytes: &[u8]) {
+    let sections = tape::word(tape, 0, 0);
     let mut at: usize = 1;
-    let mut calls: usize = 0;
-    let mut differences: usize = 0;
+    let mut calls: u64 = 0;
+    let mut differences: u64 = 0;
     for _ in 0..sections {
-        let step = tape::word(tape, at);
-        let number = tape::word(tape, tape::on(at, 1));
-        let many = tape::word(tape, tape::on(at, 2));
-        let section = replay_section(tape, tape::on(at, 3), step, many);
-        show::section(step, number, section.calls, section.differences);
-        calls = tape::on(calls, section.calls);
-        differences = tape::on(differences, section.differences);
-        at = section.after;
+        let section = Section::at(tape, at);
+        let tally = replay_section(tape, bytes, section.start, section.calls);
+        tell(
+            tape::byte_table(bytes, section.name),
+            section.calls as u64,
+            tally.differences as u64,
+        );
+        calls += section.calls as u64;
+        differences += tally.differences as u64;
+        at = tally.after;
     }
-    show::all(calls, differences);
+    tell(b"all", calls, differences);
+}
+
+// The tape in words.
+fn unpacked(bytes: &[u8; 262_144]) -> [u32; 65_536] {
+    let mut tape = [0u32; 65_536];
+    words::get_words(bytes, 0, false, false, &mut tape);
+    tape
 }
 
 fn main() {
-    let mut tape = room();
-    io::read_full(STDIN_FILENO, &mut tape);
-    replay_all(&tape);
+    let mut bytes = [0u8; 262_144];
+    io::read_full(STDIN_FILENO, &mut bytes);
+    replay_all(&unpacked(&bytes), &bytes);
 }

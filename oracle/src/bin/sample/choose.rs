@@ -27,7 +27,7 @@ fn offered<R: Record>(
 ) {
     for _ in 0..LOOKED_AT {
         let call = call(random);
-        if WORDS.contains(&call.words().len()) {
+        if WORDS.contains(&call.tables().contents().len()) {
             tape.offer(&call, TAKEN);
         }
     }

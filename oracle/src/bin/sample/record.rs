@@ -1,7 +1,6 @@
-//! How each call stands on the tape: lengths of its tables, its values, the contents of its inputs;
-//! and what its replay must give: the answer, then each table that was lent to be written.
+//! A call as it stands on the tape: numbers, input tables, tables that its step writes; and what is
+//! answered by value.
 
-use oracle::calls::Format;
 use oracle::calls::{
     Call, ComponentsCall, GridCall, KeepCall, OnePieceCall, PlanCall, ReadCall, RefineCall,
     RepresentativesCall, WriteCall,
@@ -9,55 +8,83 @@ use oracle::calls::{
 use oracle::lent::{Entry, Lent};
 use oracle::library::{Answer, Planned};
 
-/// A table that the program fills with this byte before the call.
-const FILL: u8 = 0xa5;
-
-trait Filled: Entry + Into<u64> {
+/// What the program fills a table with before the call.
+trait Filled: Entry {
     const FILLED: Self;
 }
 
 impl Filled for u8 {
-    const FILLED: u8 = FILL;
+    const FILLED: u8 = 0xa5;
 }
 
 impl Filled for u32 {
-    const FILLED: u32 = u32::from_ne_bytes([FILL; 4]);
+    const FILLED: u32 = 0xa5a5_a5a5;
 }
 
 impl Filled for u64 {
-    const FILLED: u64 = u64::from_ne_bytes([FILL; 8]);
+    const FILLED: u64 = 0xa5a5_a5a5_a5a5_a5a5;
 }
 
-fn refill<T: Filled>(table: &mut Lent<T>) {
-    table.all_mut().fill(T::FILLED);
+fn refill<T: Filled, const N: usize>(tables: [&mut Lent<T>; N]) {
+    for table in tables {
+        table.all_mut().fill(T::FILLED);
+    }
 }
 
-fn entries<T: Filled>(table: &Lent<T>) -> Vec<u64> {
-    table.all().iter().map(|entry| (*entry).into()).collect()
+/// The numbers and tables of a call; those that it has not are 0 and empty. `crossing` is a step's
+/// first table of bytes, whatever it holds.
+#[derive(Default)]
+pub struct Tables<'a> {
+    pub plan: [u32; 8],
+    pub points: &'a [u32],
+    pub cells: &'a [u32],
+    pub crossing: &'a [u8],
+    pub probe: &'a [u8],
+    pub written: [&'a [u32]; 3],
+    pub written_bytes: &'a [u8],
+    pub written_longs: &'a [u64],
 }
 
 /// Bytes four to a word, the first lowest, and at least one byte of none behind them.
-fn packed(table: &Lent<u8>) -> Vec<u32> {
-    let mut bytes = table.all().to_vec();
-    bytes.resize(4 * (table.len() / 4 + 1), 0);
+pub fn packed(bytes: &[u8]) -> Vec<u32> {
+    let mut bytes = bytes.to_vec();
+    bytes.resize(4 * (bytes.len() / 4 + 1), 0);
     let (words, _) = bytes.as_chunks::<4>();
     words.iter().map(|word| u32::from_le_bytes(*word)).collect()
 }
 
+impl Tables<'_> {
+    /// The lengths of the tables that are written, then of the inputs.
+    pub fn lengths(&self) -> Vec<usize> {
+        let [first, second, third] = self.written.map(<[u32]>::len);
+        let other = [self.written_bytes.len(), self.written_longs.len()];
+        let words = [self.points.len(), self.cells.len()];
+        let bytes = [self.crossing.len(), self.probe.len()];
+        [&[first, second, third][..], &other, &words, &bytes].concat()
+    }
+
+    /// The contents of the inputs.
+    pub fn contents(&self) -> Vec<u32> {
+        let bytes = [packed(self.crossing), packed(self.probe)].concat();
+        [self.points, self.cells, &bytes].concat()
+    }
+
+    /// The entries of all tables that are written.
+    pub fn results(&self) -> Vec<u64> {
+        let words = self.written.into_iter().flatten().copied().map(u64::from);
+        let bytes = self.written_bytes.iter().copied().map(u64::from);
+        words
+            .chain(bytes)
+            .chain(self.written_longs.iter().copied())
+            .collect()
+    }
+}
+
 pub trait Record: Call<Outcome: Values> {
-    /// The step's number on the tape.
-    fn code(&self) -> u32;
+    /// Fills every table that may be written as the program fills it.
+    fn refill(&mut self);
 
-    fn lengths(&self) -> Vec<usize>;
-
-    /// The call with every table that may be written filled as the program fills it.
-    fn filled(&self) -> Self;
-
-    /// The values and the contents of the inputs.
-    fn words(&self) -> Vec<u32>;
-
-    /// The entries of all tables lent to be written.
-    fn results(&self) -> Vec<u64>;
+    fn tables(&self) -> Tables<'_>;
 }
 
 /// What is answered by value.
@@ -80,304 +107,153 @@ impl Values for Planned {
     }
 }
 
-fn plan_words(plan: &PlanCall) -> Vec<u32> {
-    let bounds = plan.bounds.min.iter().chain(&plan.bounds.max);
-    let floats = bounds.chain([&plan.c]).map(|x| x.to_bits());
-    floats.chain([plan.levels]).collect()
+/// A box, a cell size, levels.
+fn plan(call: &PlanCall) -> [u32; 8] {
+    let [x0, y0, z0] = call.bounds.min.map(f32::to_bits);
+    let [x1, y1, z1] = call.bounds.max.map(f32::to_bits);
+    [x0, y0, z0, x1, y1, z1, call.c.to_bits(), call.levels]
+}
+
+/// A cell size alone.
+fn size(c: f32) -> [u32; 8] {
+    [0, 0, 0, 0, 0, 0, c.to_bits(), 0]
 }
 
 impl Record for PlanCall {
-    fn code(&self) -> u32 {
-        0
-    }
+    fn refill(&mut self) {}
 
-    fn lengths(&self) -> Vec<usize> {
-        Vec::new()
-    }
-
-    fn filled(&self) -> Self {
-        self.clone()
-    }
-
-    fn words(&self) -> Vec<u32> {
-        plan_words(self)
-    }
-
-    fn results(&self) -> Vec<u64> {
-        Vec::new()
-    }
-}
-
-impl Record for ComponentsCall {
-    fn code(&self) -> u32 {
-        6
-    }
-
-    fn lengths(&self) -> Vec<usize> {
-        let input = &self.input;
-        vec![
-            input.points.len(),
-            input.cells.len(),
-            self.numbers.len(),
-            self.work.len(),
-        ]
-    }
-
-    fn filled(&self) -> Self {
-        let mut call = self.clone();
-        refill(&mut call.numbers);
-        refill(&mut call.work);
-        call
-    }
-
-    fn words(&self) -> Vec<u32> {
-        [self.input.points.all(), self.input.cells.all()].concat()
-    }
-
-    fn results(&self) -> Vec<u64> {
-        [entries(&self.numbers), entries(&self.work)].concat()
-    }
-}
-
-impl Record for OnePieceCall {
-    fn code(&self) -> u32 {
-        7
-    }
-
-    fn lengths(&self) -> Vec<usize> {
-        // As components with no room for numbers.
-        let input = &self.input;
-        vec![input.points.len(), input.cells.len(), 0, self.work.len()]
-    }
-
-    fn filled(&self) -> Self {
-        let mut call = self.clone();
-        refill(&mut call.work);
-        call
-    }
-
-    fn words(&self) -> Vec<u32> {
-        [self.input.points.all(), self.input.cells.all()].concat()
-    }
-
-    fn results(&self) -> Vec<u64> {
-        entries(&self.work)
+    fn tables(&self) -> Tables<'_> {
+        Tables {
+            plan: plan(self),
+            ..Tables::default()
+        }
     }
 }
 
 impl Record for RefineCall {
-    fn code(&self) -> u32 {
-        1
+    fn refill(&mut self) {
+        refill([&mut self.split]);
     }
 
-    fn lengths(&self) -> Vec<usize> {
-        vec![self.crossing.len(), self.split.len()]
-    }
-
-    fn filled(&self) -> Self {
-        let mut call = self.clone();
-        refill(&mut call.split);
-        call
-    }
-
-    fn words(&self) -> Vec<u32> {
-        let plan = plan_words(&self.plan);
-        [plan, packed(&self.crossing)].concat()
-    }
-
-    fn results(&self) -> Vec<u64> {
-        entries(&self.split)
+    fn tables(&self) -> Tables<'_> {
+        Tables {
+            plan: plan(&self.plan),
+            crossing: self.crossing.all(),
+            written_bytes: self.split.all(),
+            ..Tables::default()
+        }
     }
 }
 
 impl Record for GridCall {
-    fn code(&self) -> u32 {
-        2
+    fn refill(&mut self) {
+        refill([&mut self.cells, &mut self.triples, &mut self.points]);
+        refill([&mut self.work]);
     }
 
-    fn lengths(&self) -> Vec<usize> {
-        let room = [
-            self.cells.len(),
-            self.triples.len(),
-            self.points.len(),
-            self.work.len(),
-        ];
-        [vec![self.split.len()], room.to_vec()].concat()
-    }
-
-    fn filled(&self) -> Self {
-        let mut call = self.clone();
-        refill(&mut call.cells);
-        refill(&mut call.triples);
-        refill(&mut call.points);
-        refill(&mut call.work);
-        call
-    }
-
-    fn words(&self) -> Vec<u32> {
-        let plan = plan_words(&self.plan);
-        [plan, packed(&self.split)].concat()
-    }
-
-    fn results(&self) -> Vec<u64> {
-        let stored = [&self.cells, &self.triples, &self.points].map(entries);
-        [stored.concat(), entries(&self.work)].concat()
+    fn tables(&self) -> Tables<'_> {
+        Tables {
+            plan: plan(&self.plan),
+            crossing: self.split.all(),
+            written: [&self.cells, &self.triples, &self.points].map(Lent::all),
+            written_longs: self.work.all(),
+            ..Tables::default()
+        }
     }
 }
 
 impl Record for RepresentativesCall {
-    fn code(&self) -> u32 {
-        3
+    fn refill(&mut self) {
+        refill([&mut self.numbers, &mut self.centroids, &mut self.work]);
     }
 
-    fn lengths(&self) -> Vec<usize> {
-        let inputs = [
-            self.input.points.len(),
-            self.input.cells.len(),
-            self.crossing.len(),
-        ];
-        let room = [self.numbers.len(), self.centroids.len(), self.work.len()];
-        [inputs, room].concat()
+    fn tables(&self) -> Tables<'_> {
+        Tables {
+            points: self.input.points.all(),
+            cells: self.input.cells.all(),
+            crossing: self.crossing.all(),
+            written: [&self.numbers, &self.centroids, &self.work].map(Lent::all),
+            ..Tables::default()
+        }
     }
-
-    fn filled(&self) -> Self {
-        let mut call = self.clone();
-        refill(&mut call.numbers);
-        refill(&mut call.centroids);
-        refill(&mut call.work);
-        call
-    }
-
-    fn words(&self) -> Vec<u32> {
-        let mesh = [self.input.points.all(), self.input.cells.all()].concat();
-        [mesh, packed(&self.crossing)].concat()
-    }
-
-    fn results(&self) -> Vec<u64> {
-        [&self.numbers, &self.centroids, &self.work]
-            .map(entries)
-            .concat()
-    }
-}
-
-/// Crust stands on the tape with an empty probe table.
-fn probe(call: &KeepCall) -> Lent<u8> {
-    call.probe.clone().unwrap_or_else(|| Lent::new(&[]))
 }
 
 impl Record for KeepCall {
-    fn code(&self) -> u32 {
-        match self.probe {
-            Some(_) => 4,
-            None => 5,
+    fn refill(&mut self) {
+        refill([&mut self.kept_points, &mut self.kept_cells, &mut self.work]);
+    }
+
+    /// Crust stands on the tape with an empty probe table.
+    fn tables(&self) -> Tables<'_> {
+        Tables {
+            plan: size(self.c),
+            points: self.input.points.all(),
+            cells: self.input.cells.all(),
+            crossing: self.crossing.all(),
+            probe: self.probe.as_ref().map_or(&[], Lent::all),
+            written: [&self.kept_points, &self.kept_cells, &self.work].map(Lent::all),
+            ..Tables::default()
         }
     }
+}
 
-    fn lengths(&self) -> Vec<usize> {
-        let inputs = [
-            self.input.points.len(),
-            self.input.cells.len(),
-            self.crossing.len(),
-            probe(self).len(),
-        ];
-        let room = [
-            self.kept_points.len(),
-            self.kept_cells.len(),
-            self.work.len(),
-        ];
-        [&inputs[..], &room].concat()
+impl Record for ComponentsCall {
+    fn refill(&mut self) {
+        refill([&mut self.numbers, &mut self.work]);
     }
 
-    fn filled(&self) -> Self {
-        let mut call = self.clone();
-        refill(&mut call.kept_points);
-        refill(&mut call.kept_cells);
-        refill(&mut call.work);
-        call
+    fn tables(&self) -> Tables<'_> {
+        Tables {
+            points: self.input.points.all(),
+            cells: self.input.cells.all(),
+            written: [self.numbers.all(), self.work.all(), &[]],
+            ..Tables::default()
+        }
+    }
+}
+
+impl Record for OnePieceCall {
+    fn refill(&mut self) {
+        refill([&mut self.work]);
     }
 
-    fn words(&self) -> Vec<u32> {
-        let mut words = vec![self.c.to_bits()];
-        words.extend(self.input.points.all());
-        words.extend(self.input.cells.all());
-        words.extend(packed(&self.crossing));
-        words.extend(packed(&probe(self)));
-        words
-    }
-
-    fn results(&self) -> Vec<u64> {
-        [&self.kept_points, &self.kept_cells, &self.work]
-            .map(entries)
-            .concat()
+    fn tables(&self) -> Tables<'_> {
+        Tables {
+            points: self.input.points.all(),
+            cells: self.input.cells.all(),
+            written: [self.work.all(), &[], &[]],
+            ..Tables::default()
+        }
     }
 }
 
 impl Record for WriteCall {
-    fn code(&self) -> u32 {
-        match self.format {
-            Format::Mesh => 8,
-            Format::Vtk => 10,
+    fn refill(&mut self) {
+        refill([&mut self.file]);
+        refill([&mut self.work]);
+    }
+
+    fn tables(&self) -> Tables<'_> {
+        Tables {
+            points: self.input.points.all(),
+            cells: self.input.cells.all(),
+            written: [self.work.all(), &[], &[]],
+            written_bytes: self.file.all(),
+            ..Tables::default()
         }
-    }
-
-    fn lengths(&self) -> Vec<usize> {
-        let input = &self.input;
-        vec![
-            input.points.len(),
-            input.cells.len(),
-            self.file.len(),
-            self.work.len(),
-        ]
-    }
-
-    fn filled(&self) -> Self {
-        let mut call = self.clone();
-        refill(&mut call.file);
-        refill(&mut call.work);
-        call
-    }
-
-    fn words(&self) -> Vec<u32> {
-        [self.input.points.all(), self.input.cells.all()].concat()
-    }
-
-    fn results(&self) -> Vec<u64> {
-        [entries(&self.file), entries(&self.work)].concat()
     }
 }
 
 impl Record for ReadCall {
-    fn code(&self) -> u32 {
-        match self.format {
-            Format::Mesh => 9,
-            Format::Vtk => 11,
+    fn refill(&mut self) {
+        refill([&mut self.points, &mut self.cells, &mut self.work]);
+    }
+
+    fn tables(&self) -> Tables<'_> {
+        Tables {
+            crossing: self.file.all(),
+            written: [&self.points, &self.cells, &self.work].map(Lent::all),
+            ..Tables::default()
         }
-    }
-
-    fn lengths(&self) -> Vec<usize> {
-        vec![
-            self.file.len(),
-            self.points.len(),
-            self.cells.len(),
-            self.work.len(),
-        ]
-    }
-
-    fn filled(&self) -> Self {
-        let mut call = self.clone();
-        refill(&mut call.points);
-        refill(&mut call.cells);
-        refill(&mut call.work);
-        call
-    }
-
-    fn words(&self) -> Vec<u32> {
-        packed(&self.file)
-    }
-
-    fn results(&self) -> Vec<u64> {
-        [&self.points, &self.cells, &self.work]
-            .map(entries)
-            .concat()
     }
 }

@@ -1,17 +1,32 @@
 //! The tape of calls, words of 32 bits, and the lines that its replay must print.
 
-use crate::record::{Record, Values};
+use crate::record::{packed, Record, Values};
 use oracle::calls::Outcome;
 use std::collections::BTreeMap;
 
+/// The steps in the order of their numbers on the tape.
+const STEPS: [&str; 12] = [
+    "plan",
+    "refine",
+    "grid",
+    "representatives",
+    "keep_cover",
+    "keep_crust",
+    "components",
+    "one_piece",
+    "write_mesh",
+    "read_mesh",
+    "write_vtk",
+    "read_vtk",
+];
 /// The most entries of a table that the program has room for.
 const MOST_ENTRIES: usize = 16_384;
 /// The bytes of tape that the program has room for.
 const MOST_BYTES: usize = 262_144;
 
 /// The calls of one step that are answered with one number.
+#[derive(Default)]
 struct Section {
-    step: &'static str,
     calls: u32,
     words: Vec<u32>,
 }
@@ -19,7 +34,7 @@ struct Section {
 /// Sections by the step's number on the tape and by the number answered.
 #[derive(Default)]
 pub struct Tape {
-    sections: BTreeMap<(u32, u32), Section>,
+    sections: BTreeMap<(usize, u32), Section>,
 }
 
 /// A digest of what a call answered and left, as the program takes it: a polynomial modulo a prime.
@@ -30,43 +45,45 @@ fn digest(values: &[u64]) -> u32 {
     values.iter().fold(0, mixed) as u32
 }
 
+fn name((step, number): &(usize, u32)) -> String {
+    format!("{} {number}", STEPS[*step])
+}
+
 impl Tape {
     /// Takes a call in, if the program has room for it and there are fewer than `most` of its step
     /// with the same number; twice as many where the step answers.
     pub fn offer<R: Record>(&mut self, call: &R, most: u32) {
-        if call.lengths().iter().any(|len| *len > MOST_ENTRIES) {
+        let mut call = call.clone();
+        call.refill();
+        let (lengths, contents) = (call.tables().lengths(), call.tables().contents());
+        if lengths.iter().any(|len| *len > MOST_ENTRIES) {
             return;
         }
-        let mut call = call.filled();
-        let lengths: Vec<u32> = call.lengths().iter().map(|len| *len as u32).collect();
-        let inputs = call.words();
         let outcome = call.expected();
-        let section = self
-            .sections
-            .entry((call.code(), outcome.number()))
-            .or_insert_with(|| Section {
-                step: call.step(),
-                calls: 0,
-                words: Vec::new(),
-            });
+        let step = STEPS.iter().position(|step| *step == call.step());
+        let step = step.expect("a step with a number");
+        let section = self.sections.entry((step, outcome.number())).or_default();
         let most = match outcome.number() {
             0 => most.saturating_mul(2),
             _ => most,
         };
         if section.calls < most {
+            let tables = call.tables();
+            let digest = digest(&[outcome.values(), tables.results()].concat());
             section.calls += 1;
-            section
-                .words
-                .push(digest(&[outcome.values(), call.results()].concat()));
-            section.words.extend(lengths);
-            section.words.extend(inputs);
+            section.words.extend([digest, step as u32]);
+            section.words.extend(tables.plan);
+            section.words.extend(lengths.iter().map(|len| *len as u32));
+            section.words.extend(contents);
         }
     }
 
     pub fn bytes(&self) -> Vec<u8> {
         let mut words = vec![self.sections.len() as u32];
-        for ((code, number), section) in &self.sections {
-            words.extend([*code, *number, section.calls]);
+        for (key, section) in &self.sections {
+            let name = name(key);
+            words.extend([section.calls, name.len() as u32]);
+            words.extend(packed(name.as_bytes()));
             words.extend(&section.words);
         }
         let bytes: Vec<u8> = words.into_iter().flat_map(u32::to_le_bytes).collect();
@@ -76,12 +93,10 @@ impl Tape {
 
     /// What the program prints where every call gives what the Rust gave.
     pub fn text(&self) -> String {
-        let told = |((_, number), section): (&(u32, u32), &Section)| {
-            let Section { step, calls, .. } = section;
-            format!("{step} {number}: {calls} calls, 0 differences\n")
-        };
-        let lines: String = self.sections.iter().map(told).collect();
-        let calls: u32 = self.sections.values().map(|section| section.calls).sum();
-        format!("{lines}all: {calls} calls, 0 differences\n")
+        let line = |name: &str, calls: u32| format!("{name}: {calls} calls, 0 differences\n");
+        let sections = self.sections.iter();
+        let lines: String = sections.map(|(key, s)| line(&name(key), s.calls)).collect();
+        let calls = self.sections.values().map(|section| section.calls).sum();
+        lines + &line("all", calls)
     }
 }

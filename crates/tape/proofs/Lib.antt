@@ -1,0 +1,3 @@
+-- Laws of parts of a tape and of digests.
+pub mod Parts
+pub mod Digesting

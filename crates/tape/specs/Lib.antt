@@ -1,0 +1,3 @@
+-- The definitions that the contracts of the tape cite.
+pub mod Call
+pub mod Digest
