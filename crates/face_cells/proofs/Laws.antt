@@ -1,12 +1,12 @@
 -- Laws of the lists of numbers that are stored. Assumes nothing.
-use mathlib.Core.Path.{_≡_, refl, sym, ap, _∙_, subst}
+use mathlib.Core.Path.{_≡_, refl, sym, ap, _∙_}
 use mathlib.Core.Bool.{Bool, true, false}
 use mathlib.Core.List.{List, [], _∷_, _++_}
 use Prim.Native.Nat.{ℕ, zero, suc, _+_, _*_, _^_, _≤_, _<_}
 use native.Mathlib.Omega.{arith}
 use lib.ListN.{length, length-append}
 use lib.Seq.{sets, length-sets}
-use Rattle.lists.specs.Runs.{Stored, Splits, Room}
+use Rattle.lists.specs.Runs.{Stored, Room}
 use Rattle.lists.proofs.Running.{stored-both, room-as, room-first}
 use Rattle.sides.specs.declared.Beside.{Beside}
 use Rattle.sides.specs.declared.Beside.the-variants.{Split, Equal, Given, Coarser, Border}

@@ -1,23 +1,20 @@
 -- The numbers that are stored for a leaf are those of its cells' vertices. Assumes nothing.
-use mathlib.Core.Path.{_≡_, refl, ap, ap₂, sym, _∙_}
+use mathlib.Core.Path.{_≡_, refl, ap, ap₂, _∙_}
 use mathlib.Core.Bool.{Bool, true, false, cond, not}
 use mathlib.Core.List.{List, [], _∷_, _++_, append-assoc}
-use Prim.Native.Nat.{ℕ, zero, suc, _+_, _*_, _-_, _/_, _^_, _≤_}
+use Prim.Native.Nat.{ℕ, zero, suc, _+_, _*_, _-_, _^_, _≤_}
 use native.Mathlib.Omega.{arith}
 use Rattle.space.specs.Space.{Axis, ax, ay, az, Pos, pos, next}
 use Rattle.octants.specs.Oct.{width, Closed}
 use Rattle.octants.specs.Table.{read}
 use Rattle.octree_cells.specs.Cells.{corner, Cell, cell, Face, face, faceCentre, centre, middle, beside, end, turned, turnsTo, same, over, fan, halves, cellsTo, Side, split, equal, coarser, border, side, finer, faceCells, axisCells, leafCells, flat}
-use Rattle.octree_cells.proofs.Points.{Drawn, Here, drawn-corner, drawn-centre, drawn-opposite, drawn-face, drawn-middle, small, by-axis, DrawnFace}
+use Rattle.octree_cells.proofs.Points.{Here, drawn-centre, drawn-opposite, drawn-face, drawn-middle, small, by-axis, DrawnFace}
 use Rattle.octree_cells.specs.Leaf.{IsLeaf}
 use Rattle.vertex_keys.specs.Keys.{keyOf, stride}
-use Rattle.sides.specs.declared.Beside.{Beside}
-use Rattle.sides.specs.declared.Beside.the-variants.{Split, Equal, Given, Coarser, Border}
-use Rattle.sides.specs.declared.Sides.{Sides}
 use Rattle.sides.specs.Told.{told, besideAt, sidesAt}
 use Rattle.sides.proofs.Ties.{AllFine, split-fine}
 use Rattle.face_cells.specs.declared.Quad.{Quad}
-use Rattle.face_cells.specs.Numbers.{overNumbers, fanNumbers, halvesNumbers, turnedNumbers, faceNumbers, axisNumbers, octantAt, axisKeyed, leafNumbers, turnsOf, Turns, AllTurn}
+use Rattle.face_cells.specs.Numbers.{overNumbers, fanNumbers, halvesNumbers, turnedNumbers, faceNumbers, axisNumbers, octantAt, axisKeyed, leafNumbers, Turns, AllTurn}
 
 -- ---- the vertices of cells under a naming
 

@@ -1,10 +1,9 @@
 -- The cells of a leaf as lists of vertex numbers, in the form that the code stores them. Assumes nothing: these are definitions.
-use mathlib.Core.Bool.{Bool, true, false, cond}
+use mathlib.Core.Bool.{Bool, true, cond}
 use mathlib.Core.List.{List, [], _∷_, _++_}
-use mathlib.Core.Path.{_≡_}
 use Prim.Native.Nat.{ℕ, zero, suc, _+_, _*_, _≤_}
 use lib.ListN.{take}
-use Rattle.vertex_keys.specs.Distinct.{rank}
+use Rattle.sorting.specs.Numbers.{rank}
 use Rattle.sides.specs.declared.Beside.{Beside}
 use Rattle.sides.specs.declared.Beside.the-variants.{Split, Equal, Given, Coarser, Border}
 use Rattle.sides.specs.declared.Sides.{Sides}

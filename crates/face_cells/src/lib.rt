@@ -5,12 +5,11 @@ use sides::Sides;
 use vertex_keys::find;
 use vertex_keys::near;
 ghost use mathlib.Core.Path.{_≡_};
-ghost use mathlib.Core.Bool.{Bool, true};
-ghost use mathlib.Core.List.{List, [], _∷_, _++_};
-ghost use Prim.Native.Nat.{ℕ, _+_, _*_, _^_, _≤_, _<_};
+ghost use mathlib.Core.Bool.{true};
+ghost use Prim.Native.Nat.{_+_, _*_, _^_, _≤_, _<_};
 ghost use lib.ListN.{length};
 ghost use Rattle.lists.specs.Runs.{Stored, Room};
-ghost use Rattle.vertex_keys.specs.Distinct.{Lookup};
+ghost use Rattle.vertex_keys.specs.Parts.{Lookup};
 ghost use Rattle.face_cells.specs.Numbers.{numberIn, overNumbers, fanNumbers, halvesNumbers, turnedNumbers, faceNumbers, lowFace, highFace, axisNumbers, octantAt, fromNext, leafNumbers, Turns, AllTurn};
 
 // A leaf's octant from an axis on, the two others after it: the numbers of its centre and its corners, the key of corner 0, and half

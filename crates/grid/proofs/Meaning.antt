@@ -1,15 +1,14 @@
 -- The refusals of the step grid and its outcome as a whole. Assumes nothing.
 use mathlib.Core.Path.{_≡_, refl, sym, ap, _∙_}
-use mathlib.Core.Logic.{_↔_, _≢_}
-use mathlib.Core.Bool.{Bool, true, false, cond, not}
+use mathlib.Core.Logic.{_↔_}
+use mathlib.Core.Bool.{Bool, true, false, cond}
 use mathlib.Core.List.{List, [], _∷_, _++_, append-nil}
-use Prim.Native.Nat.{ℕ, zero, suc, _<_}
-use native.Mathlib.Omega.{arith}
+use Prim.Native.Nat.{ℕ, _<_}
 use lib.ListN.{length}
 use lib.Ieee.{Float}
-use Rattle.refusals.specs.Rows.{Row, _when_, first, proper, rising, caused, lower}
+use Rattle.refusals.specs.Rows.{_when_, first, proper, rising, caused, lower}
 use Rattle.lists.specs.Tables.{Determined}
-use Rattle.refusals.proofs.Rows.{number-rows, stops, goes-on, exactly}
+use Rattle.refusals.proofs.Rows.{number-rows, goes-on, exactly}
 use Rattle.lists.proofs.Lent.{determined}
 use Rattle.plan.specs.Plan.{planOf, planRows, onPlan}
 use Rattle.plan.specs.Plan as plan

@@ -1,22 +1,21 @@
 -- The numbering of an octree's vertices in the work, and the tables that come of it. Assumes nothing.
-use mathlib.Core.Path.{_≡_, refl, sym, ap, ap₂, subst, _∙_}
+use mathlib.Core.Path.{_≡_, refl, sym, ap, ap₂, _∙_}
 use mathlib.Core.List.{List, [], _∷_, _++_, map}
-use Prim.Native.Nat.{ℕ, zero, suc, _+_, _*_, _-_, _^_, _≤_, _<_, min}
-use native.Mathlib.Nat.{pow-suc, mul-le-mul}
+use Prim.Native.Nat.{ℕ, zero, suc, _+_, _*_, _-_, _^_, _≤_, _<_}
+use native.Mathlib.Nat.{pow-suc}
 use native.Mathlib.Omega.{arith}
 use lib.ListN.{length, getD, take, drop, length-append, length-drop, take-append-drop}
 use lib.Seq.{sets, sets-eq, length-take-le, take-at, drop-at, drop-drop, take-append-le, length-sets}
 use borrow.Rule.Slice.PartMut.{putMid, postOf, same-len-mid, mid-len}
-use Rattle.lists.specs.Counts.{cnt, SameSet, SortedTo}
-use Rattle.space.specs.Space.{Axis, ax, ay, az, Pos, pos}
-use Rattle.octants.specs.Oct.{Tree}
+use Rattle.sorting.specs.Numbers.{SortedTo, distinctSorted, rank, StrictTo}
+use Rattle.space.specs.Space.{Axis, Pos, pos}
 use Rattle.octants.specs.Table.{off, size, depth, read}
 use Rattle.octree_cells.specs.Cells.{Cell, cells, flat}
 use Rattle.plan.specs.declared.Plan.{Plan}
 use Rattle.vertex_keys.specs.Keys.{keyOf, tripleOf}
-use Rattle.vertex_keys.specs.Distinct.{distinctSorted, rank, numbered, Rising, Indexes}
-use Rattle.vertex_keys.proofs.Members.{same-distinct}
-use Rattle.vertex_keys.proofs.Ranks.{numbered-front, numbered-rises}
+use Rattle.vertex_keys.specs.Parts.{numbered, Indexes}
+use Rattle.sorting.proofs.Members.{same-distinct, members, distinct-short}
+use Rattle.vertex_keys.proofs.Front.{numbered-front, numbered-rises}
 use Rattle.vertex_keys.proofs.Indexing.{same-rises, rising-sorted, find-ready}
 use Rattle.plan.specs.Vertices.{spread}
 use Rattle.plan.specs.Vertices.{dimsOf, tripleAt, pointAt}
@@ -25,7 +24,7 @@ use Rattle.grid.specs.Step.{cellCount, vertexCount}
 use Rattle.grid.specs.Octree.{keyTable}
 use Rattle.grid.proofs.Vertices.{spread-keys}
 use mathlib.Core.Path.{subst₂}
-use mathlib.Core.Bool.{Bool, true}
+use mathlib.Core.Bool.{true}
 use Prim.Native.Nat.{_%_}
 use borrow.Author.Tests.{lt-ltb}
 use lib.Dec.{ltb}
@@ -35,9 +34,8 @@ use Rattle.lists.specs.Tables.{allBelow}
 use Rattle.lists.specs.Runs.{run}
 use Rattle.lists.proofs.Bools.{and-left, and-right}
 use Rattle.lists.proofs.Lent.{below-at}
-use Rattle.lists.proofs.Counted.{cnt-at, cnt-find}
+use Rattle.sorting.proofs.Counting.{cnt-at, cnt-find}
 use Rattle.lists.proofs.Running.{length-run, sum-same, sum-flat}
-use Rattle.vertex_keys.proofs.Members.{members, distinct-short}
 use Rattle.leaves.specs.Leaves.{leafList, alone}
 use Rattle.leaves.proofs.Lines.{leaves-bound}
 use Rattle.leaf_cells.specs.Listed.{levelIn, Placed, nineKeys, keysIn, keysFrom, Standing}
@@ -289,10 +287,10 @@ module _ (s : List ℕ) (nx ny nz l n : ℕ) (w : List ℕ) (h : Numberable s nx
       front-same : take v (take (9 * n + 1) (M ++ drop (9 * n) w₂)) ≡ take v (M ++ drop (9 * n) w₂)
       front-same = front-of v (9 * n + 1) w₃ (omega (arith, v-fits)) long
 
-      rises : Rising v (take (9 * n + 1) (M ++ drop (9 * n) w₂))
+      rises : StrictTo v (take (9 * n + 1) (M ++ drop (9 * n) w₂))
       rises =
           same-rises w₃ (take (9 * n + 1) w₃) v front-same
-          (subst₂ (λ (i : ℕ) (q : List ℕ). Rising i (q ++ drop (9 * n) w₂)) (sym v-is) (sym m-is) (numbered-rises K (drop (9 * n) w₂)))
+          (subst₂ (λ (i : ℕ) (q : List ℕ). StrictTo i (q ++ drop (9 * n) w₂)) (sym v-is) (sym m-is) (numbered-rises K (drop (9 * n) w₂)))
 
       -- what the index asks for
       pub index-asks : (v < length (take (9 * n + 1) (M ++ drop (9 * n) w₂))) × SortedTo v (take (9 * n + 1) (M ++ drop (9 * n) w₂))

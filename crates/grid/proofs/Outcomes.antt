@@ -1,8 +1,8 @@
 -- The outcomes of a grid that is not refused, one law for each way out. Assumes nothing.
-use mathlib.Core.Path.{_≡_, refl, sym, ap, subst, _∙_}
-use mathlib.Core.Bool.{Bool, true, false, cond, _||_, true≢false}
-use mathlib.Core.List.{List, [], _∷_, _++_, map}
-use Prim.Native.Nat.{ℕ, suc, _+_, _*_, _/_, _≤_, _<_}
+use mathlib.Core.Path.{_≡_, refl, sym, ap, _∙_}
+use mathlib.Core.Bool.{Bool, true, false, _||_, true≢false}
+use mathlib.Core.List.{List, [], _∷_, _++_}
+use Prim.Native.Nat.{ℕ, _+_, _*_, _/_, _≤_}
 use native.Mathlib.Omega.{arith}
 use borrow.Author.Tests.{ltb-false}
 use lib.Dec.{ltb}
@@ -10,7 +10,7 @@ use lib.ListN.{length, take, drop, replicate}
 use lib.Seq.{length-take-le, sets}
 use Rattle.lists.proofs.Parts.{sets-whole}
 use Rattle.lists.specs.Runs.{Room}
-use Rattle.space.specs.Space.{Axis, ax, ay, az, Pos, pos}
+use Rattle.space.specs.Space.{Axis, Pos}
 use Rattle.octree_cells.specs.Cells.{Cell, flat}
 use Rattle.plan.specs.declared.Plan.{Plan}
 use Rattle.lattice.specs.Lattice.{latticeCells, latticeVertices, latticeTable}
@@ -18,7 +18,7 @@ use Rattle.plan.specs.Vertices.{dimsOf, tripleAt, pointAt, spread}
 use Rattle.lattice.specs.Storing.{verticesOf}
 use Rattle.grid.specs.Grid.{gridCells, gridVertices, numberAt, cellTable, tripleTable, pointTable}
 use Rattle.grid.specs.Step.{cellCount, vertexCount, lacksCells, lacksVertices, filledOf, Filled}
-use Rattle.grid.specs.declared.Gridded.the-variants.{Done, Refused, NoCells, NoVertices}
+use Rattle.grid.specs.declared.Gridded.the-variants.{Done, NoCells, NoVertices}
 
 -- ---- lengths
 

@@ -1,34 +1,33 @@
 -- The octree branch and the step, one law for each way out. Assumes nothing.
 use mathlib.Core.Path.{_≡_, refl, sym, ap, subst, _∙_}
 use mathlib.Core.Logic.{_≢_}
-use mathlib.Core.Bool.{Bool, true, false, cond, not}
+use mathlib.Core.Bool.{Bool, true, false}
 use mathlib.Core.List.{List, [], _∷_, _++_, append-nil}
-use Prim.Native.Nat.{ℕ, zero, suc, _+_, _*_, _/_, _≤_, _<_}
+use Prim.Native.Nat.{ℕ, zero, suc, _+_, _*_, _≤_}
 use native.Mathlib.Omega.{arith}
 use borrow.Author.Tests.{eqb-true, not-false}
 use lib.Dec.{eqb}
 use lib.Ieee.{Float}
 use lib.ListN.{length, take, drop, replicate, take-append-drop, drop-of-length-le}
 use lib.Seq.{length-take-le}
-use Rattle.refusals.specs.Rows.{first, proper, unless}
-use Rattle.lists.specs.Tables.{allAtMost}
+use Rattle.refusals.specs.Rows.{first, proper}
 use Rattle.refusals.proofs.Rows.{clear, unless-none, unless-some}
-use Rattle.space.specs.Space.{Pos, pos}
+use Rattle.space.specs.Space.{pos}
 use Rattle.octants.specs.Table.{off, size, depth}
 use Rattle.octants.specs.Judge.{isGraded}
 use Rattle.octants.proofs.Judge.{graded-closes}
 use Rattle.sides.specs.Told.{Taken}
-use Rattle.plan.specs.Plan.{planOf, octantsOf, onPlan}
+use Rattle.plan.specs.Plan.{planOf, octantsOf}
 use Rattle.plan.proofs.Ready.{ReadyPlan, ready}
 use Rattle.plan.specs.declared.Bounds.{Bounds}
 use Rattle.plan.specs.declared.Plan.{Plan}
 use Rattle.plan.specs.declared.Planned.the-variants as planned
 use Rattle.plan.specs.Vertices.{dimsOf}
 use Rattle.grid.specs.Grid.{cellTable, tripleTable, pointTable}
-use Rattle.grid.specs.Step.{cellCount, vertexCount, lacksCells, lacksVertices, splitRows, filledOf, gridOf, resultAfter, gridWork, Filled, GridDone, Planful}
+use Rattle.grid.specs.Step.{cellCount, vertexCount, lacksCells, lacksVertices, splitRows, filledOf, gridOf, Filled, GridDone, Planful}
 use Rattle.grid.specs.Octree.{Stocked}
 use Rattle.grid.specs.declared.Gridded.{Gridded}
-use Rattle.grid.specs.declared.Gridded.the-variants.{Done, Refused, NoCells, NoVertices}
+use Rattle.grid.specs.declared.Gridded.the-variants.{Done, Refused, NoVertices}
 use Rattle.grid.proofs.Outcomes.{cells-room, length-cells, length-triples, length-points}
 
 -- ---- an octree with room for its cells

@@ -7,10 +7,11 @@ use Prim.Native.Nat.{ℕ, zero, suc, _≤_, _<_}
 use native.Mathlib.Omega.{arith}
 use borrow.Author.Tests.{lt-ltb}
 use lib.ListN.{length, getD, length-map}
-use Rattle.lists.specs.Counts.{cnt, SameSet}
+use Rattle.sorting.specs.Entries.{many}
+use Rattle.sorting.specs.Numbers.{cnt, SameSet, rank}
 use Rattle.lists.specs.Tables.{allBelow}
 use Rattle.lists.proofs.Cases.{ltOr}
-use Rattle.lists.proofs.Counted.{hit-self, cnt-at, cnt-find}
+use Rattle.sorting.proofs.Counting.{hit-self, cnt-at, cnt-find}
 use Rattle.lists.proofs.Lent.{below-at}
 use Rattle.lists.proofs.Listing.{map-at}
 use Rattle.space.specs.Space.{ax, ay, az, Pos, pos}
@@ -18,10 +19,9 @@ use Rattle.octants.specs.Table.{read}
 use Rattle.octree_cells.specs.Cells.{Cell, cells, flat}
 use Rattle.octree_cells.specs.Vertices.{names}
 use Rattle.vertex_keys.specs.Keys.{keyOf, tripleOf, Packs, Before}
-use Rattle.vertex_keys.specs.Distinct.{rank}
-use Rattle.vertex_keys.proofs.Members.{members}
-use Rattle.vertex_keys.proofs.Ranks.{number-of, distinct-strict}
-use Rattle.vertex_keys.proofs.Packing.{pack, unpack, key-small, key-order}
+use Rattle.sorting.proofs.Members.{members}
+use Rattle.sorting.proofs.Ranks.{number-of, distinct-strict}
+use Rattle.vertex_keys.proofs.Packing.{key-small, key-order, key-triple, triple-key}
 use Rattle.sides.specs.Told.{Taken}
 use Rattle.leaf_cells.proofs.Bounds.{far, near-packs, cells-near}
 use Rattle.plan.specs.declared.Plan.{Plan}
@@ -94,11 +94,11 @@ module _ (s : List ℕ) (nx ny nz l : ℕ) (h : Taken s nx ny nz l) where
   unfolding vertexKeys
   key-stands q p c =
       let r = number-of (keyOf q) (flat keyOf C) c in
-      (omega (arith, r .0, length-map K tripleOf), map-at tripleOf K 0 (pos 0 0 0) (rank (keyOf q) K) (r .0) ∙ ap tripleOf (r .1) ∙ unpack q p)
+      (omega (arith, r .0, length-map K tripleOf), map-at tripleOf K 0 (pos 0 0 0) (rank (keyOf q) K) (r .0) ∙ ap tripleOf (r .1) ∙ triple-key q p)
 
   octree-stands : (D : List Cell) → ((x : ℕ) → 0 < cnt x (flat keyOf D) → 0 < cnt x (flat keyOf (cells l (pos nx ny nz) (read (pos nx ny nz) l s)))) → Each Packs D
       → Each (Stands (λ x. rank (keyOf x) (vertexKeys l (pos nx ny nz) s)) (map tripleOf (vertexKeys l (pos nx ny nz) s))) D
-  unfolding flat cnt
+  unfolding flat many
   octree-stands [] a e = tt
   octree-stands (c ∷ D) a e = (
     key-stands (c .c0) (e .0) (a (keyOf (c .c0)) (omega (arith, hit-self (keyOf (c .c0))))),
@@ -139,7 +139,7 @@ module _ (s : List ℕ) (nx ny nz l : ℕ) (h : Taken s nx ny nz l) where
       let bj : j < length K = omega (arith, length-map K tripleOf) in
       let bi : i < length K = omega arith in
       rw (map-at tripleOf K 0 (pos 0 0 0) i bi, map-at tripleOf K 0 (pos 0 0 0) j bj)
-      (key-order (tripleOf x) (key-packs i bi) (tripleOf y) (key-packs j bj) .0 (omega (arith, pack x, pack y, key-strict i j ij bj)))
+      (key-order (tripleOf x) (key-packs i bi) (tripleOf y) (key-packs j bj) .0 (omega (arith, key-triple x, key-triple y, key-strict i j ij bj)))
 
   -- a key's number is its place
   key-rank : (j : ℕ) → j < length (vertexKeys l (pos nx ny nz) s) → rank (getD (vertexKeys l (pos nx ny nz) s) j 0) (vertexKeys l (pos nx ny nz) s) ≡ j

@@ -1,13 +1,13 @@
 -- The vertices of an octree as tables, key by key. Assumes nothing.
-use mathlib.Core.Path.{_≡_, refl, sym, ap, _∙_, fun-ext}
+use mathlib.Core.Path.{_≡_, refl, sym, ap, _∙_}
 use mathlib.Core.List.{List, [], _∷_, _++_, map}
-use Prim.Native.Nat.{ℕ, zero, suc, _+_, _*_, _≤_, _<_}
+use Prim.Native.Nat.{ℕ, zero, suc, _+_, _*_, _≤_}
 use native.Mathlib.Omega.{arith}
 use lib.ListN.{length, getD, take}
 use lib.Seq.{getD-take, length-take-le}
-use Rattle.lists.specs.Runs.{run, sums, Room}
-use Rattle.lists.proofs.Running.{run-same, length-run, sum-same, sum-flat}
-use Rattle.space.specs.Space.{Axis, ax, ay, az, Pos}
+use Rattle.lists.specs.Runs.{run, Room}
+use Rattle.lists.proofs.Running.{run-same, length-run, sum-flat}
+use Rattle.space.specs.Space.{Axis, ax, ay, az}
 use Rattle.vertex_keys.specs.Keys.{tripleOf}
 use Rattle.plan.specs.Vertices.{spread}
 use Rattle.grid.specs.Octree.{threeOf, keyTable}

@@ -1,12 +1,12 @@
 -- The grid of a plan and a split table, octree or lattice: its cells, its vertices, and their numbers, as document 01 ("Cells") has them. l are the levels, d
 -- the dimensions, s is the split table.
-use mathlib.Core.List.{List, [], _∷_, map}
+use mathlib.Core.List.{List, map}
 use Prim.Native.Nat.{ℕ, zero, suc}
-use Rattle.space.specs.Space.{Axis, ax, ay, az, Pos, pos}
+use Rattle.space.specs.Space.{Pos}
 use Rattle.octants.specs.Table.{read}
 use Rattle.octree_cells.specs.Cells.{Cell, cells, flat}
 use Rattle.vertex_keys.specs.Keys.{keyOf, tripleOf}
-use Rattle.vertex_keys.specs.Distinct.{distinctSorted, rank}
+use Rattle.sorting.specs.Numbers.{distinctSorted, rank}
 use Rattle.lattice.specs.Lattice.{latticeCells, latticeVertices, indexOf}
 use Rattle.plan.specs.Vertices.{tripleAt, pointAt, dimsOf, spread}
 use Rattle.plan.specs.declared.Plan.{Plan}

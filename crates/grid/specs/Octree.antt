@@ -7,7 +7,7 @@ use Rattle.lists.specs.Runs.{run}
 use Rattle.space.specs.Space.{Axis, ax, ay, az, pos}
 use Rattle.octants.specs.Table.{read}
 use Rattle.vertex_keys.specs.Keys.{tripleOf}
-use Rattle.vertex_keys.specs.Distinct.{Lookup}
+use Rattle.vertex_keys.specs.Parts.{Lookup}
 use Rattle.sides.specs.Told.{Taken}
 use Rattle.leaves.specs.Leaves.{leafList}
 use mathlib.Core.Bool.{cond}

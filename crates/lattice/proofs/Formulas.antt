@@ -2,7 +2,7 @@
 use mathlib.Core.Path.{_≡_, refl, sym, ap, _∙_, fun-ext}
 use mathlib.Core.Logic.{_⊎_, inl, inr}
 use mathlib.Core.Bool.{Bool, true, false, cond, _&&_}
-use mathlib.Core.List.{List, [], _∷_, _++_}
+use mathlib.Core.List.{List, [], _∷_}
 use Prim.Native.Nat.{ℕ, _+_, _*_, _-_, _/_, _≤_, _<_}
 use native.Mathlib.Nat.{mul-le-mul}
 use native.Mathlib.Omega.{arith}
@@ -10,11 +10,11 @@ use borrow.Author.Tests.{lt-ltb, le-ltb}
 use lib.Dec.{ltb}
 use lib.ListN.{length, length-append}
 use Rattle.lists.specs.Tests.{bit}
-use Rattle.lists.specs.Runs.{run, sums}
+use Rattle.lists.specs.Runs.{sums}
 use Rattle.lists.proofs.Cases.{ltOr}
 use Rattle.lists.proofs.Running.{length-run, sum-same, sum-flat, sum-add, sum-before}
-use Rattle.space.specs.Space.{Axis, ax, ay, az, Pos, pos, next}
-use Rattle.lattice.specs.Lattice.{evens, odds, size, boxUp, doubled, latticeVertices, complete, octahedron, axisCells, centreCells, latticeCells}
+use Rattle.space.specs.Space.{Axis, ax, ay, az, Pos, pos}
+use Rattle.lattice.specs.Lattice.{evens, odds, size, boxUp, doubled, latticeVertices, octahedron, axisCells, centreCells, latticeCells}
 use Rattle.lattice.proofs.Octahedra.{there, complete-is}
 
 -- a product of three numbers of at most 65

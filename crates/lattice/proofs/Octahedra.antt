@@ -1,16 +1,15 @@
 -- The octahedra of the lattice by the numbers of their vertices. Assumes nothing.
-use mathlib.Core.Path.{_≡_, refl, sym, ap, ap₂, _∙_, fun-ext}
+use mathlib.Core.Path.{_≡_, refl, sym, ap, _∙_, fun-ext}
 use mathlib.Core.Logic.{_⊎_, inl, inr}
 use mathlib.Core.Bool.{Bool, true, false, cond, _&&_}
-use mathlib.Core.List.{List, [], _∷_, _++_}
+use mathlib.Core.List.{[]}
 use Prim.Native.Nat.{ℕ, _+_, _*_, _-_, _/_, _%_, _≤_, _<_}
 use native.Mathlib.Omega.{arith}
 use borrow.Author.Tests.{eq-eqb, ne-eqb, lt-ltb, le-ltb, le-leb, lt-leb}
-use lib.Dec.{eqb, leb, ltb}
-use lib.ListN.{length}
+use lib.Dec.{leb, ltb}
 use Rattle.lists.proofs.Cases.{ltOr}
-use Rattle.space.specs.Space.{Axis, ax, ay, az, Pos, pos, frame, next}
-use Rattle.octree_cells.specs.Cells.{Cell, cell, flat}
+use Rattle.space.specs.Space.{Axis, ax, ay, az, Pos, frame, next}
+use Rattle.octree_cells.specs.Cells.{flat}
 use Rattle.lattice.specs.Lattice.{evens, odds, size, doubled, slot, indexOf, inRange, opposite, corner0, corner1, corner2, corner3, complete, octahedron, axisCells, octaNumbers, step}
 
 -- ---- the number of a vertex

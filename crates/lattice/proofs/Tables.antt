@@ -1,21 +1,20 @@
 -- The tables of the lattice, row by row. Assumes nothing.
 use mathlib.Core.Path.{_≡_, refl, sym, ap, ap₂, _∙_, fun-ext}
-use mathlib.Core.Bool.{Bool, true, false, cond, _&&_}
-use mathlib.Core.List.{List, [], _∷_, _++_, append-assoc}
+use mathlib.Core.Bool.{Bool, true, false, _&&_}
+use mathlib.Core.List.{List, [], _∷_, _++_}
 use Prim.Native.Nat.{ℕ, _+_, _*_, _-_, _/_, _≤_, _<_}
 use native.Mathlib.Nat.{mul-le-mul}
 use native.Mathlib.Omega.{arith}
 use lib.Dec.{ltb}
-use lib.ListN.{length}
 use Rattle.lists.specs.Runs.{run, Splits}
 use Rattle.lists.proofs.Running.{run-same, run-map}
-use Rattle.space.specs.Space.{Axis, ax, ay, az, Pos, pos, next}
+use Rattle.space.specs.Space.{Axis, ax, ay, az, Pos, pos}
 use Rattle.octree_cells.specs.Cells.{Cell, flat}
 use Rattle.plan.specs.declared.Plan.{Plan}
-use Rattle.lattice.specs.Lattice.{evens, odds, size, boxUp, doubled, slot, step, indexOf, axisCells, centreCells, latticeCells, latticeVertices, latticeTable, octaNumbers}
+use Rattle.lattice.specs.Lattice.{evens, odds, boxUp, doubled, indexOf, centreCells, latticeCells, latticeVertices, latticeTable, octaNumbers}
 use Rattle.plan.specs.Vertices.{dimsOf, spread}
-use Rattle.lattice.specs.Storing.{numbersAt, rowNumbers, cellsAt, rowCells, layerCells, allCells, rowOf, layerOf, boxOf, verticesOf}
-use Rattle.lattice.proofs.Octahedra.{there, axis-numbers}
+use Rattle.lattice.specs.Storing.{numbersAt, rowNumbers, cellsAt, rowCells, allCells, boxOf, verticesOf}
+use Rattle.lattice.proofs.Octahedra.{axis-numbers}
 
 -- ---- the cells
 

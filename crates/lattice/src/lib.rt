@@ -4,7 +4,7 @@ ghost use mathlib.Core.Bool.{_&&_};
 ghost use Prim.Native.Nat.{_+_, _*_, _<_, _≤_};
 ghost use Rattle.lists.specs.Runs.{Stored, Room};
 ghost use lib.Seq.{sets};
-ghost use Rattle.space.specs.Space.{ay, az, pos};
+ghost use Rattle.space.specs.Space.{ay, pos};
 ghost use Rattle.lattice.specs.Lattice.{odds, latticeTable, octaNumbers};
 use plan::Plan;
 ghost use Rattle.plan.specs.Vertices.{tripleAt, pointAt};

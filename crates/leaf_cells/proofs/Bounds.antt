@@ -1,25 +1,25 @@
 -- Every vertex of a grid has coordinates that fit its key. Assumes nothing.
-use mathlib.Core.Path.{_≡_, refl, sym, ap, _∙_, subst}
+use mathlib.Core.Path.{_≡_, refl, ap, _∙_}
 use mathlib.Core.Bool.{Bool, true, false, _||_}
 use mathlib.Core.List.{List, [], _∷_, _++_}
 use mathlib.Core.Logic.{_⊎_, inl, inr, ⊎-elim}
-use Prim.Native.Nat.{ℕ, zero, suc, _+_, _-_, _*_, _/_, _^_, _≤_, _<_}
+use Prim.Native.Nat.{ℕ, zero, suc, _+_, _-_, _*_, _^_, _≤_, _<_}
 use native.Mathlib.Omega.{arith}
 use native.Mathlib.Nat.{not-suc-le-zero, le-of-suc-le-suc}
 use lib.Dec.{leb}
 use lib.ListN.{length, getD}
-use borrow.Author.Tests.{leb-true, le-leb, lt-leb}
+use borrow.Author.Tests.{leb-true, le-leb}
 use Rattle.space.specs.Space.{Axis, ax, ay, az, Pos, pos, Inside}
 use Rattle.octants.specs.Oct.{Tree, width}
-use Rattle.lists.proofs.Bools.{or-cases, or-left, or-right, bool-cases, clash}
+use Rattle.lists.proofs.Bools.{or-cases, bool-cases, clash}
 use Rattle.octants.specs.Table.{read}
-use Rattle.octree_cells.specs.Cells.{Cell, corner, centre, two, boxDown, overLeaves, cells}
+use Rattle.octree_cells.specs.Cells.{corner, centre, two, boxDown, overLeaves, cells}
 use Rattle.octree_cells.specs.Leaf.{IsLeaf}
 use Rattle.octree_cells.proofs.LeafSome.{leaves-some, box-some}
 use Rattle.octree_cells.specs.Vertices.{leafPoints, names, marks}
 use Rattle.octree_cells.proofs.Vertices.{vertices}
 use Rattle.lists.proofs.Cases.{ltOr}
-use Rattle.vertex_keys.specs.Keys.{keyOf, Packs}
+use Rattle.vertex_keys.specs.Keys.{Packs}
 use Rattle.vertex_keys.proofs.Packing.{key-small}
 use Rattle.sides.specs.Told.{Taken}
 use Rattle.leaf_cells.specs.Listed.{keysOf, leafKeys}

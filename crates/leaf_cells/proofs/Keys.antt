@@ -1,23 +1,22 @@
 -- The keys of a leaf, from its number in the list. Assumes nothing.
 use mathlib.Core.Path.{_≡_, refl, sym, ap, ap₂, _∙_, subst}
-use mathlib.Core.List.{List, [], _∷_, _++_}
-use Prim.Native.Nat.{ℕ, zero, suc, _+_, _-_, _*_, _/_, _%_, _^_, _≤_, _<_}
+use mathlib.Core.List.{List, [], _∷_}
+use Prim.Native.Nat.{ℕ, zero, suc, _+_, _-_, _*_, _%_, _^_, _≤_, _<_}
 use native.Mathlib.Omega.{arith}
-use native.Mathlib.Nat.{mul-le-mul, two-pow-succ, le-trans}
+use native.Mathlib.Nat.{mul-le-mul, two-pow-succ}
 use lib.ListN.{length, getD}
 use lib.Seq.{sets, getD-set-other, length-sets}
 use lib.Pow.{pow-mono}
 use Rattle.space.specs.Space.{Axis, ax, ay, az, Pos, pos}
 use Rattle.octants.specs.Oct.{width}
-use Rattle.octants.specs.Levels.{Dims}
 use Rattle.octants.specs.Table.{read}
-use Rattle.octree_cells.specs.Cells.{corner, centre, boxDown, down}
+use Rattle.octree_cells.specs.Cells.{corner, boxDown, down}
 use Rattle.octree_cells.proofs.Points.{drawn-corner}
 use Rattle.octree_cells.specs.Leaf.{IsLeaf}
 use Rattle.octree_cells.specs.Vertices.{leafPoints}
-use Rattle.lists.specs.Runs.{run, Stored, Storing}
+use Rattle.lists.specs.Runs.{run, Storing}
 use Rattle.lists.proofs.Running.{loop-start, loop-next, loop-done}
-use Rattle.vertex_keys.specs.Keys.{keyOf, stride}
+use Rattle.vertex_keys.specs.Keys.{keyOf}
 use Rattle.sides.specs.Told.{Taken}
 use Rattle.face_cells.proofs.Link.{lowKey, half, key-of, key-centre}
 use Rattle.leaf_cells.specs.Listed.{levelIn, placeIn, Placed, AllPlaced, nineKeys, keysOf, keysIn, keysFrom, Standing}

@@ -1,37 +1,35 @@
 -- A listed leaf is a leaf; its keys and its cells are those of the definition. Assumes nothing.
-use mathlib.Core.Path.{_≡_, refl, sym, ap, ap₂, _∙_, subst, fun-ext}
+use mathlib.Core.Path.{_≡_, refl, sym, ap, ap₂, _∙_, subst}
 use mathlib.Core.Bool.{Bool, true, false, _||_}
 use mathlib.Core.List.{List, [], _∷_, _++_}
 use mathlib.Core.Logic.{⊎-elim}
-use Prim.Native.Nat.{ℕ, zero, suc, _+_, _-_, _*_, _/_, _%_, _^_, _≤_, _<_, min}
+use Prim.Native.Nat.{ℕ, zero, suc, _+_, _-_, _<_, min}
 use native.Mathlib.Omega.{arith}
-use native.Mathlib.Nat.{mul-le-mul, not-suc-le-zero, le-of-suc-le-suc, lt-of-lt-of-le, pow-suc}
+use native.Mathlib.Nat.{not-suc-le-zero, le-of-suc-le-suc}
 use lib.Dec.{eqb}
-use lib.ListN.{length, getD, take, drop, length-append}
-use lib.Seq.{getD-take, getD-drop, sets, getD-set-other}
-use lib.Pow.{pow-mono, pow-pos}
+use lib.ListN.{length, getD, drop}
+use lib.Seq.{getD-take, getD-drop}
 use borrow.Author.Tests.{eqb-true, eq-eqb}
-use Rattle.space.specs.Space.{Axis, ax, ay, az, Pos, pos}
+use Rattle.space.specs.Space.{Pos, pos}
 use Rattle.octants.specs.Oct.{Tree}
 use Rattle.lists.proofs.Bools.{or-cases, clash}
-use Rattle.space.proofs.Space.{pos-eta}
 use Rattle.octants.specs.Table.{read}
-use Rattle.octree_cells.specs.Cells.{Cell, boxDown, down, corner, centre, leafCells, cells, overLeaves, flat}
-use Rattle.octree_cells.proofs.Points.{drawn-corner}
+use Rattle.octree_cells.specs.Cells.{Cell, leafCells, cells, overLeaves, flat}
 use Rattle.octree_cells.specs.Leaf.{IsLeaf}
 use Rattle.octree_cells.proofs.LeafSome.{leaves-some}
 use Rattle.octree_cells.specs.Vertices.{leafPoints, names, marks}
 use Rattle.octree_cells.proofs.Vertices.{vertices}
 use Rattle.lists.specs.Runs.{run}
 use Rattle.lists.specs.Tests.{bit}
-use Rattle.lists.specs.Counts.{hit, cnt, SameSet}
+use Rattle.sorting.specs.Entries.{many}
+use Rattle.sorting.specs.Numbers.{cnt, SameSet}
 use Rattle.lists.proofs.Running.{run-same}
 use Rattle.vertex_keys.specs.Keys.{keyOf}
 use Rattle.sides.specs.Told.{Taken}
 use Rattle.sides.proofs.Levels.{in-small}
 use Rattle.leaves.specs.Leaves.{packed, alone, leafList}
-use Rattle.face_cells.proofs.Link.{flat-append, lowKey, half, key-of, key-centre}
-use Rattle.leaf_cells.specs.Listed.{levelIn, placeIn, Placed, AllPlaced, nineKeys, keysOf, keysIn, keysFrom, leafKeys, Standing}
+use Rattle.face_cells.proofs.Link.{flat-append}
+use Rattle.leaf_cells.specs.Listed.{levelIn, placeIn, keysOf, keysFrom, leafKeys, Standing}
 use Rattle.leaf_cells.proofs.Listing.{level-back, place-back, each, each-leaves, each-run, map-each, leaves-same}
 
 -- ---- an entry of the list is a leaf
@@ -128,7 +126,7 @@ module _ (s : List ℕ) (nx ny nz l : ℕ) (h : Taken s nx ny nz l) where
 -- ---- the vertices of the cells are those of the leaves
 
 cnt-names : (x : ℕ) (cs : List Cell) → min 1 (cnt x (flat keyOf cs)) ≡ bit (names (λ p. eqb x (keyOf p)) cs)
-unfolding cnt flat names hit
+unfolding many flat names
 cnt-names x [] = omega arith
 cnt-names x (c ∷ cs) =
     go (eqb x (keyOf (c .c0))) (eqb x (keyOf (c .c1))) (eqb x (keyOf (c .c2))) (eqb x (keyOf (c .c3))) (cnt x (flat keyOf cs))
@@ -142,7 +140,7 @@ cnt-names x (c ∷ cs) =
     go false false false false n b e = omega arith
 
 cnt-marks : (x : ℕ) (ps : List Pos) → min 1 (cnt x (keysOf ps)) ≡ bit (marks (λ p. eqb x (keyOf p)) ps)
-unfolding cnt keysOf marks hit
+unfolding many keysOf marks
 cnt-marks x [] = omega arith
 cnt-marks x (p ∷ ps) = go (eqb x (keyOf p)) (cnt x (keysOf ps)) (marks (λ p. eqb x (keyOf p)) ps) (cnt-marks x ps)
   where

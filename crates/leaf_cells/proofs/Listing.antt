@@ -1,41 +1,24 @@
 -- From the list of leaves to what the leaves give. Assumes nothing.
-use mathlib.Core.Path.{_≡_, refl, sym, ap, ap₂, _∙_, subst, fun-ext}
-use mathlib.Core.Bool.{Bool, true, false, cond, not, _&&_, _||_}
+use mathlib.Core.Path.{_≡_, refl, sym, ap, _∙_, subst, fun-ext}
+use mathlib.Core.Bool.{Bool, true, false, cond, not, _&&_}
 use mathlib.Core.List.{List, [], _∷_, _++_, append-nil, append-assoc}
-use Prim.Native.Nat.{ℕ, zero, suc, _+_, _-_, _*_, _/_, _%_, _^_, _≤_, _<_, min}
+use Prim.Native.Nat.{ℕ, zero, suc, _+_, _-_, _*_, _^_, _≤_, _<_}
 use native.Mathlib.Omega.{arith}
-use native.Mathlib.Nat.{mul-le-mul, pow-suc, le-trans}
-use native.Mathlib.Numerals.{add-one}
-use lib.Dec.{eqb}
-use lib.ListN.{length, getD, take, drop, length-append}
-use lib.Seq.{getD-take, getD-drop}
-use lib.Pow.{pow-mono}
-use borrow.Author.Tests.{eqb-true, eq-eqb}
-use Rattle.space.specs.Space.{Axis, ax, ay, az, Pos, pos, Inside}
-use Rattle.octants.specs.Oct.{Tree, In, Closed}
-use Rattle.lists.proofs.Bools.{both-and, or-cases, or-left, clash}
-use Rattle.space.proofs.Space.{pos-eta}
+use lib.ListN.{length, getD}
+use Rattle.space.specs.Space.{Axis, ax, ay, az, Pos, Inside}
+use Rattle.octants.specs.Oct.{Tree, In}
+use Rattle.lists.proofs.Bools.{both-and}
 use Rattle.octants.proofs.Axis1.{child-in}
-use Rattle.octants.specs.Table.{read, size, place}
+use Rattle.octants.specs.Table.{size, place}
 use Rattle.octants.proofs.TableLaws.{place-in}
-use Rattle.octree_cells.specs.Cells.{Cell, down, boxDown, below, child, two, overLeaves, leafCells, cells, flat}
+use Rattle.octree_cells.specs.Cells.{down, boxDown, below, child, two, overLeaves}
 use Rattle.octree_cells.specs.Leaf.{opened}
 use Rattle.octree_cells.proofs.Opened.{own-opened, opened-parent, parent-child, two-lt}
 use Rattle.octree_cells.specs.Leaf.{IsLeaf}
-use Rattle.octree_cells.proofs.LeafSome.{leaves-some}
-use Rattle.octree_cells.specs.Vertices.{leafPoints, names, marks}
-use Rattle.octree_cells.proofs.Vertices.{vertices}
 use Rattle.lists.specs.Runs.{run}
-use Rattle.lists.specs.Tests.{bit}
-use Rattle.lists.specs.Counts.{hit, cnt, SameSet}
-use Rattle.lists.proofs.Running.{run-same}
-use Rattle.vertex_keys.specs.Keys.{keyOf}
-use Rattle.sides.specs.Told.{Taken}
-use Rattle.sides.proofs.Levels.{in-small}
 use Rattle.leaves.specs.Leaves.{packed, alone, leafList}
 use Rattle.leaves.proofs.Lines.{box-line, down-cong}
-use Rattle.face_cells.proofs.Link.{flat-append}
-use Rattle.leaf_cells.specs.Listed.{levelIn, placeIn, Placed, AllPlaced, keysOf, keysIn, keysFrom, leafKeys, Standing}
+use Rattle.leaf_cells.specs.Listed.{levelIn, placeIn}
 
 -- ---- a leaf from its number
 

@@ -1,11 +1,10 @@
 -- The cells of a listed leaf, and the loop over the list. Assumes nothing.
 use mathlib.Core.Path.{_≡_, refl, sym, ap, _∙_, subst}
-use mathlib.Core.List.{List, [], _∷_, _++_}
+use mathlib.Core.List.{List, [], _∷_}
 use Prim.Native.Nat.{ℕ, _+_, _-_, _*_, _%_, _^_, _≤_, _<_}
 use native.Mathlib.Omega.{arith}
 use lib.ListN.{length, getD}
-use lib.Seq.{sets}
-use Rattle.space.specs.Space.{ax, ay, az, Pos, pos}
+use Rattle.space.specs.Space.{Pos, pos}
 use Rattle.octants.specs.Table.{read}
 use Rattle.octree_cells.specs.Cells.{Cell, leafCells, cells, flat}
 use Rattle.octree_cells.specs.Leaf.{IsLeaf}
@@ -15,7 +14,7 @@ use Rattle.lists.proofs.Parts.{sets-whole}
 use Rattle.sides.specs.declared.Sides.{Sides}
 use Rattle.sides.specs.Told.{Taken, sidesAt}
 use Rattle.face_cells.specs.Numbers.{numberIn, leafNumbers, AllTurn}
-use Rattle.face_cells.proofs.Link.{leaf-link, all-turn, lowKey, half}
+use Rattle.face_cells.proofs.Link.{leaf-link, all-turn}
 use Rattle.leaf_cells.specs.Listed.{levelIn, placeIn, numberOf, Standing}
 use Rattle.leaf_cells.proofs.Leafwise.{listed, cells-by}
 use Rattle.leaf_cells.proofs.Keys.{low-is, halves-are}

@@ -1,6 +1,5 @@
 -- What a listed leaf stands for: its level and place, the keys of its vertices, the numbers of its cells. Assumes nothing: these are definitions.
 use mathlib.Core.Path.{_≡_}
-use mathlib.Core.Bool.{Bool}
 use mathlib.Core.List.{List, [], _∷_}
 use Prim.Native.Nat.{ℕ, _+_, _*_, _/_, _%_, _^_, _≤_, _<_}
 use lib.ListN.{length, getD, take, drop}
@@ -11,7 +10,7 @@ use Rattle.octree_cells.specs.Cells.{overLeaves}
 use Rattle.octree_cells.specs.Vertices.{leafPoints}
 use Rattle.lists.specs.Runs.{run}
 use Rattle.vertex_keys.specs.Keys.{keyOf}
-use Rattle.vertex_keys.specs.Distinct.{rank}
+use Rattle.sorting.specs.Numbers.{rank}
 use Rattle.leaves.specs.Leaves.{leafList}
 
 abbrev pub levelIn : ℕ → ℕ

@@ -1,15 +1,15 @@
 -- The walk over the leaves, turn by turn. Assumes nothing.
-use mathlib.Core.Path.{_≡_, refl, sym, ap, ap₂, _∙_, subst}
+use mathlib.Core.Path.{_≡_, refl, sym, ap, _∙_, subst}
 use mathlib.Core.Bool.{Bool, true, false, not, _&&_}
 use mathlib.Core.List.{List, [], _∷_, _++_}
-use Prim.Native.Nat.{ℕ, zero, suc, _+_, _-_, _*_, _/_, _%_, _^_, _≤_, _<_}
+use Prim.Native.Nat.{ℕ, zero, suc, _+_, _-_, _*_, _^_, _≤_, _<_}
 use native.Mathlib.Omega.{arith}
-use native.Mathlib.Nat.{mul-le-mul, le-trans, pow-le-pow-right}
+use native.Mathlib.Nat.{mul-le-mul, pow-le-pow-right}
 use native.Mathlib.Numerals.{add-one}
 use lib.ListN.{length, length-append, set}
 use lib.Seq.{sets, set-out, length-sets}
 use Rattle.space.specs.Space.{Axis, ax, ay, az, Pos, pos, Inside}
-use Rattle.octants.specs.Oct.{Tree, In, counts, hit, within, parent}
+use Rattle.octants.specs.Oct.{Tree, In, counts, hit}
 use Rattle.lists.proofs.Bools.{both-and, clash}
 use Rattle.octants.proofs.Near.{in-within}
 use Rattle.octants.proofs.Axis1.{child-in}
@@ -24,8 +24,8 @@ use Rattle.octree_cells.specs.Leaf.{IsLeaf}
 use Rattle.lists.proofs.Parts.{sets-append, sets-whole}
 use Rattle.sides.specs.Told.{Taken}
 use Rattle.leaves.specs.declared.Tally.{Tally}
-use Rattle.leaves.specs.Leaves.{packed, alone, leafList, kids, leavesBelow, cellsBelow, leavesOf, cellsOf, Left, Counted, Walked}
-use Rattle.leaves.proofs.Lines.{box-line, octant-leaf, octant-split, kids-none, kids-more, down-none, down-more, leaves-bound, leaves-some, leaves-times}
+use Rattle.leaves.specs.Leaves.{alone, leafList, leavesBelow, cellsBelow, leavesOf, cellsOf, Left, Counted, Walked}
+use Rattle.leaves.proofs.Lines.{box-line, octant-leaf, octant-split, kids-more, down-none, down-more, leaves-bound, leaves-some, leaves-times}
 
 -- ---- what a walk leaves behind
 

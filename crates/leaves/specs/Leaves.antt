@@ -1,11 +1,11 @@
 -- The list of leaves, and what a walk over them leaves behind. Assumes nothing: these are definitions.
 use mathlib.Core.Path.{_≡_}
-use mathlib.Core.Bool.{Bool, true}
+use mathlib.Core.Bool.{true}
 use mathlib.Core.List.{List, [], _∷_}
 use Prim.Native.Nat.{ℕ, _+_, _-_, _*_, _^_, _≤_, _<_}
 use lib.ListN.{length}
 use lib.Seq.{sets}
-use Rattle.space.specs.Space.{Axis, ax, ay, az, Pos, pos}
+use Rattle.space.specs.Space.{ax, ay, az, Pos, pos}
 use Rattle.octants.specs.Oct.{Tree, In}
 use Rattle.octants.specs.Table.{read, place}
 use Rattle.octree_cells.specs.Cells.{Cell, down, below, child, two, overLeaves, leafCells, cells}

@@ -2,11 +2,10 @@
 use octree::is_split;
 use sides::count_leaf;
 ghost use mathlib.Core.Path.{_≡_};
-ghost use mathlib.Core.Bool.{Bool, true};
-ghost use mathlib.Core.List.{List, [], _∷_};
-ghost use Prim.Native.Nat.{ℕ, _+_, _*_, _^_, _≤_, _<_};
+ghost use mathlib.Core.Bool.{true};
+ghost use mathlib.Core.List.{[], _∷_};
+ghost use Prim.Native.Nat.{_+_, _*_, _^_, _≤_, _<_};
 ghost use lib.ListN.{length};
-ghost use lib.Seq.{sets};
 ghost use Rattle.space.specs.Space.{pos};
 ghost use Rattle.octants.specs.Table.{read};
 ghost use Rattle.octree_cells.specs.Cells.{leafCells, cells};

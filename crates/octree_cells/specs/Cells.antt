@@ -1,6 +1,6 @@
 -- The cells of an octree grid, as document 01 ("Cells", octree) and the Rust's leaf_cells have them, on integer triples. Assumes nothing: these are
 -- definitions. The Rust's names: width, corner, center, face_corners, face_center, covering_leaf, has_finer_vertex, leaf_cells, leaves.
-use mathlib.Core.Bool.{Bool, true, false, cond, not, _&&_, _||_}
+use mathlib.Core.Bool.{Bool, true, false, cond, not, _&&_}
 use mathlib.Core.List.{List, [], _∷_, _++_}
 use Prim.Native.Nat.{ℕ, zero, suc, _+_, _*_, _-_, _/_, _%_, _^_}
 use lib.Dec.{eqb, ltb, leb}

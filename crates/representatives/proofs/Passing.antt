@@ -9,7 +9,7 @@ use native.Mathlib.Numerals.{add-one}
 use native.Mathlib.Omega.{arith}
 use lib.ListN.{length, getD, length-append, List·getD-append}
 use lib.Seq.{getD-at}
-use Rattle.lists.specs.Counts.{Strict}
+use Rattle.sorting.specs.Numbers.{Strict}
 use Rattle.lists.specs.Runs.{run, those}
 use Rattle.lists.proofs.Cases.{eqOr, ltOr}
 use Rattle.lists.proofs.Running.{run-last}

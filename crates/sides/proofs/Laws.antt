@@ -1,10 +1,10 @@
 -- Laws of reading around a leaf. Assumes nothing.
-use mathlib.Core.Path.{_≡_, refl, sym, ap, _∙_}
-use mathlib.Core.Bool.{Bool, true, false, _||_}
+use mathlib.Core.Path.{_≡_, refl}
+use mathlib.Core.Bool.{Bool, true, false}
 use mathlib.Core.List.{List}
-use Prim.Native.Nat.{ℕ, zero, suc, _+_, _-_, _/_, _%_, _≤_, _<_}
+use Prim.Native.Nat.{ℕ, zero, suc, _+_, _-_, _/_, _%_}
 use native.Mathlib.Omega.{arith}
-use lib.Dec.{eqb, ltb}
+use lib.Dec.{ltb}
 use borrow.Author.Tests.{eq-eqb, ne-eqb}
 use Rattle.space.specs.Space.{Axis, Pos, pos}
 use Rattle.octants.specs.Oct.{hit}
@@ -12,7 +12,6 @@ use Rattle.octants.specs.Table.{at}
 use Rattle.octree_cells.specs.Cells.{reaches, stepped}
 use Rattle.octree_cells.specs.Leaf.{turnAt, central}
 use Rattle.sides.specs.declared.Level.{Level}
-use Rattle.sides.specs.declared.Beside.{Beside}
 use Rattle.sides.specs.declared.Beside.the-variants.{Split, Equal, Given, Coarser, Border}
 use Rattle.sides.specs.Reading.{axisOf, countsOf, splitIn, eitherIn, equalIn, besideIn}
 

@@ -9,7 +9,7 @@ use native.Mathlib.Numerals.{add-one}
 use lib.Dec.{eqb}
 use lib.ListN.{length}
 use lib.Pow.{pow-pos, pow-mono}
-use Rattle.space.specs.Space.{Axis, ax, ay, az, Pos, pos}
+use Rattle.space.specs.Space.{ax, ay, az, Pos, pos}
 use Rattle.octants.specs.Oct.{In}
 use Rattle.lists.specs.Tests.{bit}
 use Rattle.octants.specs.Table.{off, size, depth, read}

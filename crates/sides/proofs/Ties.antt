@@ -1,38 +1,34 @@
 -- What is read beside a leaf of a graded table is what the definition of the cells says. Assumes nothing.
 use mathlib.Core.Path.{_≡_, refl, ap, ap₂, sym, _∙_, subst}
-use mathlib.Core.Bool.{Bool, true, false, cond, not, _&&_, _||_}
-use mathlib.Core.List.{List, [], _∷_, _++_}
-use mathlib.Core.Logic.{_⊎_, inl, inr, ⊎-elim}
-use Prim.Native.Nat.{ℕ, zero, suc, _+_, _-_, _*_, _/_, _^_, _≤_, _<_}
+use mathlib.Core.Bool.{Bool, true, false, _&&_, _||_}
+use mathlib.Core.List.{List}
+use Prim.Native.Nat.{ℕ, zero, suc, _+_, _-_, _/_, _≤_, _<_}
 use native.Mathlib.Omega.{arith}
 use native.Mathlib.Decide.{decLe}
 use lib.Dec.{eqb}
 use lib.ListN.{length, length-append}
-use borrow.Author.Tests.{eq-eqb, ne-eqb, le-ltb}
+use borrow.Author.Tests.{eq-eqb, le-ltb}
 use Rattle.space.specs.Space.{Axis, ax, ay, az, Pos, pos, next, frame}
-use Rattle.octants.specs.Oct.{Tree, counts, parent, In, Closed, within, Octree}
-use Rattle.lists.proofs.Bools.{bool-cases, clash}
+use Rattle.octants.specs.Oct.{Tree, counts, parent, In, Closed, within}
+use Rattle.lists.proofs.Bools.{clash}
 use Rattle.space.proofs.Space.{pos-eta}
 use Rattle.octants.proofs.Near.{in-within}
 use Rattle.octants.proofs.Least.{parent-inside}
-use Rattle.lists.specs.Tests.{bit}
-use Rattle.octants.specs.Table.{off, read, size, depth}
+use Rattle.octants.specs.Table.{read}
 use Rattle.octants.proofs.TableLaws.{off-le, off-suc}
-use Rattle.octree_cells.specs.Cells.{corner, middle, end, side, Side, split, equal, coarser, border, reaches, stepped, beside, face, Face, faceCentre, turnsTo, finer, cellsTo, faceCells, axisCells, leafCells}
+use Rattle.octree_cells.specs.Cells.{corner, middle, end, side, Side, split, equal, coarser, border, reaches, stepped, beside, face, Face, finer, cellsTo, faceCells, leafCells}
 use Rattle.octree_cells.specs.Leaf.{IsLeaf}
 use Rattle.octree_cells.proofs.LeafSome.{whole-of}
 use Rattle.octree_cells.proofs.Local.{splitAt, stepTo, edge-next, edge-last}
-use Rattle.octree_cells.proofs.Sides.{beside-in, side-split}
+use Rattle.octree_cells.proofs.Sides.{beside-in}
 use Rattle.octree_cells.specs.Leaf.{turnAt}
 use Rattle.octree_cells.proofs.LocalSide.{localSide, side-local, turn-local, under-split}
-use Rattle.octree_cells.proofs.Counting.{cells-length, edgesOf}
+use Rattle.octree_cells.proofs.Counting.{cells-length}
 use Rattle.octree_cells.proofs.Vertices.{side-is-split}
-use Rattle.sides.specs.declared.Level.{Level}
-use Rattle.sides.specs.declared.Sides.{Sides}
 use Rattle.sides.specs.declared.Beside.{Beside}
-use Rattle.sides.specs.declared.Beside.the-variants.{Split, Equal, Given, Coarser, Border}
-use Rattle.sides.specs.Reading.{countsOf, Held, splitIn, eitherIn, equalIn, besideIn, pickSide, facing, sidesIn, levelOf, givenAt, givenBy}
-use Rattle.sides.specs.Told.{told, edged, besideAt, sidesAt, Taken}
+use Rattle.sides.specs.declared.Beside.the-variants.{Split, Equal, Coarser, Border}
+use Rattle.sides.specs.Reading.{Held, splitIn, eitherIn, equalIn, besideIn, pickSide, facing, sidesIn, levelOf, givenAt, givenBy}
+use Rattle.sides.specs.Told.{told, besideAt, sidesAt, Taken}
 
 and-none : (b : Bool) → b && false ≡ false
 and-none true = refl

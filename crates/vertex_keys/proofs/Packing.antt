@@ -1,29 +1,29 @@
 -- The order of keys is that of triples, and a key gives its triple back. Assumes nothing.
-use mathlib.Core.Path.{_≡_, refl, sym, ap, _∙_, fun-ext}
+use mathlib.Core.Path.{_≡_, sym, ap, _∙_, fun-ext}
 use mathlib.Core.Logic.{_⊎_, inl, inr, _↔_, _≢_}
-use Prim.Native.Nat.{ℕ, _+_, _*_, _/_, _%_, _≤_, _<_}
+use Prim.Native.Nat.{ℕ, _≤_, _<_}
 use native.Mathlib.Omega.{arith}
-use Rattle.space.specs.Space.{Axis, ax, ay, az, Pos, pos}
+use Rattle.space.specs.Space.{Axis, ax, ay, az, Pos}
 use Rattle.lists.proofs.Cases.{ltOr, eqOr}
-use Rattle.vertex_keys.specs.Keys.{keyOf, tripleOf, Packs, Before}
+use Rattle.vertex_keys.specs.Keys.{keys, keyOf, tripleOf, Packs, Before}
 
 -- the key of a key's triple is the key
-pub pack : (k : ℕ) → keyOf (tripleOf k) ≡ k
+pub key-triple : (k : ℕ) → keyOf (tripleOf k) ≡ k
 unfolding keyOf
-pack k = omega arith
+key-triple k = omega arith
 
 module _ (p : Pos) (h : Packs p) where
   -- the triple of a key is the triple that was packed
-  pub unpack : tripleOf (keyOf p) ≡ p
+  pub triple-key : tripleOf (keyOf p) ≡ p
   unfolding keyOf
-  unpack = fun-ext at
+  triple-key = fun-ext at
     where
       at : (a : Axis) → tripleOf (keyOf p) a ≡ p a
       at ax = omega (arith, h ax, h ay, h az)
       at ay = omega (arith, h ax, h ay, h az)
       at az = omega (arith, h ax, h ay, h az)
 
-  pub key-small : keyOf p < 549755813888
+  pub key-small : keyOf p < keys
   unfolding keyOf
   key-small = omega (arith, h ax, h ay, h az)
 
@@ -51,7 +51,4 @@ module _ (p : Pos) (h : Packs p) where
 
     -- one key, one triple
     pub key-one : keyOf p ≡ keyOf q → p ≡ q
-    key-one e = sym unpack ∙ ap tripleOf e ∙ unpack-q
-      where
-        unpack-q : tripleOf (keyOf q) ≡ q
-        unpack-q = Rattle.vertex_keys.proofs.Packing.unpack q g
+    key-one e = sym triple-key ∙ ap tripleOf e ∙ Rattle.vertex_keys.proofs.Packing.triple-key q g

@@ -4,22 +4,30 @@ use mathlib.Core.Logic.{_⊎_}
 use Prim.Native.Nat.{ℕ, _+_, _*_, _/_, _%_, _<_}
 use Rattle.space.specs.Space.{Axis, ax, ay, az, Pos, pos}
 
--- what one step along an axis adds to a key: a coordinate, which is at most 4,096, has 13 bits
+-- a coordinate, which is at most 4,096, has 13 bits
+abbrev pub field : ℕ
+field = 8192
+
+-- what one step along an axis adds to a key
 abbrev pub stride : Axis → ℕ
 stride ax = 67108864
-stride ay = 8192
+stride ay = field
 stride az = 1
 
+-- keys are below this
+abbrev pub keys : ℕ
+keys = 549755813888
+
 unfoldable pub keyOf : Pos → ℕ
-keyOf p = p ax * 67108864 + p ay * 8192 + p az
+keyOf p = p ax * stride ax + p ay * stride ay + p az
 
 -- the triple of a key
 abbrev pub tripleOf : ℕ → Pos
-tripleOf k = pos (k / 67108864) (k / 8192 % 8192) (k % 8192)
+tripleOf k = pos (k / stride ax) (k / stride ay % field) (k % field)
 
 -- each coordinate fits its field
 abbrev pub Packs : Pos → Type 0
-Packs p = (a : Axis) → p a < 8192
+Packs p = (a : Axis) → p a < field
 
 -- p stands before q: by x, then y, then z
 abbrev pub Before : Pos → Pos → Type 0

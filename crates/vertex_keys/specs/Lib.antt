@@ -1,3 +1,3 @@
--- The definitions that the contracts of vertex_keys cite.
-pub mod Distinct
+-- The keys of vertices, and what the parts of the code that numbers them promise.
 pub mod Keys
+pub mod Parts

@@ -15,8 +15,8 @@ use Rattle.octants.specs.Table.{off, slot, depth, read}
 use Rattle.octree_cells.specs.Cells.{cells, leafCells, boxDown, down, below, descent, side, finer, over, fan, halves, cellsTo, flat}
 use Rattle.lists.proofs.Lent.{zeros-at}
 use Rattle.vertex_keys.specs.Keys.{keyOf, tripleOf}
-use Rattle.vertex_keys.specs.Distinct.{insert, distinctSorted}
-use Rattle.vertex_keys.proofs.Members.{same-distinct}
+use Rattle.sorting.specs.Numbers.{insert, distinctSorted}
+use Rattle.sorting.proofs.Members.{same-distinct}
 use Rattle.sides.specs.Told.{Taken}
 use Rattle.leaf_cells.specs.Listed.{keysOf, leafKeys}
 use Rattle.leaf_cells.proofs.Leafwise.{same-vertices}

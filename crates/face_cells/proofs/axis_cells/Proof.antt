@@ -4,11 +4,6 @@ use Rattle.face_cells.proofs.Laws.{room-to, room-front, room-rest, low-
 use borrow.Author.Needs.{needs}
 use Rattle.face_cells.proofs.axis_cells.Statement.{statement}
 use Rattle.face_cells.proofs.axis_cells.Tie as tie
-use Rattle.face_cells.proofs.axis_cells.Reads as reads
-use Rattle.face_cells.proofs.axis_cells.Lts as lts
-use Rattle.face_cells.proofs.face_cells.Reads as face-cells-reads
-use Rattle.face_cells.proofs.high_face.Reads as high-face-reads
-use Rattle.face_cells.proofs.low_face.Reads as low-face-reads
 
 low-face-requires : tie.Need-low-face-requires
 low-face-requires c κs = search needs

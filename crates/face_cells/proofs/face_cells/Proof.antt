@@ -4,13 +4,6 @@ use native.Mathlib.Omega.{arith}
 use borrow.Author.Needs.{needs}
 use Rattle.face_cells.proofs.face_cells.Statement.{statement}
 use Rattle.face_cells.proofs.face_cells.Tie as tie
-use Rattle.face_cells.proofs.face_cells.Reads as reads
-use Rattle.face_cells.proofs.face_cells.Lts as lts
-use Rattle.face_cells.proofs.fan.Reads as fan-reads
-use Rattle.face_cells.proofs.halves.Reads as halves-reads
-use Rattle.face_cells.proofs.turned.Reads as turned-reads
-use Rattle.vertex_keys.proofs.find.Reads as find-reads
-use Rattle.vertex_keys.proofs.near.Reads as near-reads
 
 enum-told : tie.Need-enum-told
 enum-told c = search needs

@@ -5,9 +5,6 @@ use Rattle.face_cells.specs.Numbers.{fanNumbers}
 use Rattle.face_cells.proofs.Laws.{room-front, room-rest}
 use Rattle.face_cells.proofs.fan.Statement.{statement}
 use Rattle.face_cells.proofs.fan.Tie as tie
-use Rattle.face_cells.proofs.fan.Reads as reads
-use Rattle.face_cells.proofs.fan.Lts as lts
-use Rattle.face_cells.proofs.over.Reads as over-reads
 
 add-over : tie.Need-add-over
 add-over c = search needs

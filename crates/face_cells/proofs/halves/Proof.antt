@@ -3,9 +3,6 @@ use native.Mathlib.Omega.{arith}
 use Rattle.face_cells.proofs.Laws.{stored-two, halves-are, halves-room}
 use Rattle.face_cells.proofs.halves.Statement.{statement}
 use Rattle.face_cells.proofs.halves.Tie as tie
-use Rattle.face_cells.proofs.halves.Reads as reads
-use Rattle.face_cells.proofs.halves.Lts as lts
-use Rattle.lists.proofs.store4.Reads as store4-reads
 
 store4-requires : tie.Need-store4-requires
 store4-requires c κs = omega (arith, halves-room _ _ _ _ _ (c .before .before .pre))

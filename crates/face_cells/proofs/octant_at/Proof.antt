@@ -3,10 +3,6 @@ use Rattle.face_cells.specs.Numbers.{octantAt}
 use borrow.Author.Needs.{needs}
 use Rattle.face_cells.proofs.octant_at.Statement.{statement}
 use Rattle.face_cells.proofs.octant_at.Tie as tie
-use Rattle.face_cells.proofs.octant_at.Reads as reads
-use Rattle.face_cells.proofs.octant_at.Lts as lts
-use Rattle.vertex_keys.proofs.find.Reads as find-reads
-use Rattle.vertex_keys.proofs.near.Reads as near-reads
 
 mul-x : tie.Need-mul-x
 mul-x c = search needs

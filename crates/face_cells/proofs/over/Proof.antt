@@ -3,10 +3,6 @@ use native.Mathlib.Omega.{arith}
 use Rattle.face_cells.proofs.Laws.{stored-one, stored-two, over-fine, over-plain, room-fine, room-plain}
 use Rattle.face_cells.proofs.over.Statement.{statement}
 use Rattle.face_cells.proofs.over.Tie as tie
-use Rattle.face_cells.proofs.over.Reads as reads
-use Rattle.face_cells.proofs.over.Lts as lts
-use Rattle.lists.proofs.store4.Reads as store4-reads
-use Rattle.vertex_keys.proofs.find.Reads as find-reads
 
 find-requires : tie.Need-find-requires
 find-requires c κs = search needs

@@ -4,11 +4,6 @@ use Rattle.face_cells.proofs.Laws.{room-to, room-front, room-rest, all-
 use borrow.Author.Needs.{needs}
 use Rattle.face_cells.proofs.six_faces.Statement.{statement}
 use Rattle.face_cells.proofs.six_faces.Tie as tie
-use Rattle.face_cells.proofs.six_faces.Reads as reads
-use Rattle.face_cells.proofs.six_faces.Lts as lts
-use Rattle.face_cells.proofs.axis_cells.Reads as axis-cells-reads
-use Rattle.face_cells.proofs.from_next.Reads as from-next-reads
-use Rattle.face_cells.proofs.octant_at.Reads as octant-at-reads
 
 octant-at-requires : tie.Need-octant-at-requires
 octant-at-requires c κs = search needs

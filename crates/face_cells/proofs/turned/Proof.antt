@@ -5,9 +5,6 @@ use Rattle.lists.proofs.Running.{stored-as}
 use Rattle.face_cells.proofs.Laws.{turned-0, turned-1, turned-2, turned-3, room-halves}
 use Rattle.face_cells.proofs.turned.Statement.{statement}
 use Rattle.face_cells.proofs.turned.Tie as tie
-use Rattle.face_cells.proofs.turned.Reads as reads
-use Rattle.face_cells.proofs.turned.Lts as lts
-use Rattle.face_cells.proofs.halves.Reads as halves-reads
 
 halves-requires : tie.Need-halves-requires
 halves-requires c κs = room-halves _ _ _ _ _ (c .before .before .before .pre .1)

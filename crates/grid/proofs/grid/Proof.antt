@@ -1,20 +1,9 @@
-use mathlib.Core.Path.{_≡_, refl, sym, ap, _∙_}
-use Prim.Native.Nat.{ℕ}
-use native.Mathlib.Omega.{arith}
+use mathlib.Core.Path.{sym, ap, _∙_}
 use Rattle.plan.specs.Plan.{numberOf}
 use Rattle.grid.proofs.Steps.{planful, levels-are, short-table, taken, plan-refused, split-refused, filled, filled-lattice}
-use mathlib.Core.List.{List}
-use Rattle.grid.specs.Step.{Filled}
 use borrow.Author.Needs.{needs}
 use Rattle.grid.proofs.grid.Statement.{statement}
 use Rattle.grid.proofs.grid.Tie as tie
-use Rattle.grid.proofs.grid.Reads as reads
-use Rattle.grid.proofs.grid.Lts as lts
-use Rattle.grid.proofs.judge.Reads as judge-reads
-use Rattle.grid.proofs.lattice_grid.Reads as lattice-grid-reads
-use Rattle.grid.proofs.octree_grid.Reads as octree-grid-reads
-use Rattle.plan.proofs.Plan.new.Reads as new-reads
-use Rattle.plan.proofs.Planned.number.Reads as number-reads
 
 new-requires : tie.Need-new-requires
 new-requires c κs = search needs

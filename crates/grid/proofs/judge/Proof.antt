@@ -1,4 +1,4 @@
-use mathlib.Core.Path.{_≡_, refl, sym, ap, _∙_}
+use mathlib.Core.Path.{_≡_, refl, _∙_}
 use mathlib.Core.Bool.{true}
 use mathlib.Core.List.{List}
 use Prim.Native.Nat.{ℕ}
@@ -14,10 +14,6 @@ use Rattle.grid.specs.Step.{splitRows}
 use borrow.Author.Needs.{needs}
 use Rattle.grid.proofs.judge.Statement.{statement}
 use Rattle.grid.proofs.judge.Tie as tie
-use Rattle.grid.proofs.judge.Reads as reads
-use Rattle.grid.proofs.judge.Lts as lts
-use Rattle.balance.proofs.is_graded.Reads as is-graded-reads
-use Rattle.lists.proofs.all_at_most.Reads as all-at-most-reads
 
 -- there is nothing to judge where there are no levels
 flat-graded : (d : Pos) (l : ℕ) (s : List ℕ) → l ≡ 0 → isGraded d l s ≡ true

@@ -4,8 +4,6 @@ use Rattle.grid.specs.Step.{lacksCells}
 use borrow.Author.Needs.{needs}
 use Rattle.grid.proofs.lacks_cells.Statement.{statement}
 use Rattle.grid.proofs.lacks_cells.Tie as tie
-use Rattle.grid.proofs.lacks_cells.Reads as reads
-use Rattle.grid.proofs.lacks_cells.Lts as lts
 
 returns : tie.Need-returns
 unfolding lacksCells

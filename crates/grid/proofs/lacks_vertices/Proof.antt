@@ -3,8 +3,6 @@ use borrow.Author.Tests.{lt-ltb, le-ltb}
 use Rattle.grid.specs.Step.{lacksVertices}
 use Rattle.grid.proofs.lacks_vertices.Statement.{statement}
 use Rattle.grid.proofs.lacks_vertices.Tie as tie
-use Rattle.grid.proofs.lacks_vertices.Reads as reads
-use Rattle.grid.proofs.lacks_vertices.Lts as lts
 
 returns : tie.Need-returns
 unfolding lacksVertices

@@ -1,5 +1,5 @@
-use mathlib.Core.Path.{_≡_, refl, sym, ap, _∙_}
-use mathlib.Core.List.{List, []}
+use mathlib.Core.Path.{_≡_, sym, ap, _∙_}
+use mathlib.Core.List.{[]}
 use Prim.Native.Nat.{ℕ, _*_}
 use native.Mathlib.Omega.{arith}
 use lib.ListN.{length}
@@ -13,14 +13,6 @@ use Rattle.grid.proofs.Outcomes.{cells-room, vertices-room, no-cells, n
 use borrow.Author.Needs.{needs}
 use Rattle.grid.proofs.lattice_grid.Statement.{statement}
 use Rattle.grid.proofs.lattice_grid.Tie as tie
-use Rattle.grid.proofs.lattice_grid.Reads as reads
-use Rattle.grid.proofs.lattice_grid.Lts as lts
-use Rattle.grid.proofs.lacks_cells.Reads as lacks-cells-reads
-use Rattle.grid.proofs.lacks_vertices.Reads as lacks-vertices-reads
-use Rattle.lattice.proofs.count.Reads as count-reads
-use Rattle.lattice.proofs.store_cells.Reads as store-cells-reads
-use Rattle.lattice.proofs.store_vertices.Reads as store-vertices-reads
-use Rattle.lists.proofs.zero64.Reads as zero64-reads
 
 cast-count : tie.Need-cast-count
 cast-count c = search needs

@@ -1,5 +1,4 @@
 use mathlib.Core.Path.{sym}
-use Prim.Native.Nat.{_*_}
 use native.Mathlib.Omega.{arith}
 use lib.Seq.{length-take-le}
 use Rattle.leaf_cells.proofs.Keys.{all-placed}
@@ -7,12 +6,6 @@ use Rattle.grid.proofs.Octrees.{standing, front-long, index-asks, ready
 use borrow.Author.Needs.{needs}
 use Rattle.grid.proofs.number_vertices.Statement.{statement}
 use Rattle.grid.proofs.number_vertices.Tie as tie
-use Rattle.grid.proofs.number_vertices.Reads as reads
-use Rattle.grid.proofs.number_vertices.Lts as lts
-use Rattle.leaf_cells.proofs.leaf_keys.Reads as leaf-keys-reads
-use Rattle.leaves.proofs.list_leaves.Reads as list-leaves-reads
-use Rattle.vertex_keys.proofs.index.Reads as index-reads
-use Rattle.vertex_keys.proofs.number.Reads as number-reads
 
 mul-keys : tie.Need-mul-keys
 mul-keys c = search needs

@@ -1,4 +1,4 @@
-use mathlib.Core.Path.{_≡_, refl, sym, ap, _∙_}
+use mathlib.Core.Path.{_≡_, sym, ap, _∙_}
 use Prim.Native.Nat.{ℕ, _*_, _/_}
 use native.Mathlib.Omega.{arith}
 use lib.ListN.{length}
@@ -11,13 +11,6 @@ use Rattle.grid.proofs.Steps.{stocked-none, stocked-done}
 use borrow.Author.Needs.{needs}
 use Rattle.grid.proofs.octree_fill.Statement.{statement}
 use Rattle.grid.proofs.octree_fill.Tie as tie
-use Rattle.grid.proofs.octree_fill.Reads as reads
-use Rattle.grid.proofs.octree_fill.Lts as lts
-use Rattle.grid.proofs.lacks_vertices.Reads as lacks-vertices-reads
-use Rattle.grid.proofs.number_vertices.Reads as number-vertices-reads
-use Rattle.grid.proofs.store_vertices.Reads as store-vertices-reads
-use Rattle.leaf_cells.proofs.store_cells.Reads as store-cells-reads
-use Rattle.lists.proofs.zero64.Reads as zero64-reads
 
 cast-nx : tie.Need-cast-nx
 cast-nx c = search needs

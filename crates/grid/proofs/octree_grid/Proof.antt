@@ -1,4 +1,4 @@
-use mathlib.Core.Path.{_≡_, refl, sym, ap, _∙_}
+use mathlib.Core.Path.{sym, ap, _∙_}
 use Prim.Native.Nat.{ℕ, _*_}
 use native.Mathlib.Omega.{arith}
 use lib.Seq.{length-take-le}
@@ -11,11 +11,6 @@ use Rattle.grid.proofs.Steps.{fill-whole}
 use borrow.Author.Needs.{needs}
 use Rattle.grid.proofs.octree_grid.Statement.{statement}
 use Rattle.grid.proofs.octree_grid.Tie as tie
-use Rattle.grid.proofs.octree_grid.Reads as reads
-use Rattle.grid.proofs.octree_grid.Lts as lts
-use Rattle.grid.proofs.lacks_cells.Reads as lacks-cells-reads
-use Rattle.grid.proofs.octree_fill.Reads as octree-fill-reads
-use Rattle.leaves.proofs.count_cells.Reads as count-cells-reads
 
 cast-count-cells : tie.Need-cast-count-cells
 cast-count-cells c = search needs

@@ -1,8 +1,7 @@
-use mathlib.Core.Path.{_≡_, refl, ap, _∙_}
-use mathlib.Core.List.{List, [], _∷_}
-use Prim.Native.Nat.{ℕ, _+_, _*_, _-_, _≤_}
+use mathlib.Core.Path.{refl, ap, _∙_}
+use Prim.Native.Nat.{_-_, _≤_}
 use native.Mathlib.Omega.{arith}
-use lib.ListN.{length, getD}
+use lib.ListN.{getD}
 use lib.Seq.{sets}
 use Rattle.lists.specs.Runs.{run, Storing}
 use Rattle.lists.proofs.Running.{loop-start, loop-next, loop-room, loop-done, storing-length}
@@ -11,10 +10,6 @@ use Rattle.grid.specs.Octree.{threeOf, keyTable}
 use Rattle.grid.proofs.Vertices.{key-room, three-same}
 use Rattle.grid.proofs.store_vertices.Statement.{statement}
 use Rattle.grid.proofs.store_vertices.Tie as tie
-use Rattle.grid.proofs.store_vertices.Reads as reads
-use Rattle.grid.proofs.store_vertices.Lts as lts
-use Rattle.lists.proofs.store3.Reads as store3-reads
-use Rattle.plan.proofs.place.Reads as place-reads
 
 abbrev Inv-loop : tie.InvT-loop
 Inv-loop keys v triples₀ points₀ p here₀ i₀ triples points here i = (i ≤ v) × Storing triples₀ 0 (keyTable tripleAt v keys) triples here (run (v - i) (λ k. threeOf tripleAt (getD keys k 0)) i) × Storing points₀ 0 (keyTable (pointAt p) v keys) points here (run (v - i) (λ k. threeOf (pointAt p) (getD keys k 0)) i)

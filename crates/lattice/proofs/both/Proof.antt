@@ -2,8 +2,6 @@ use borrow.Author.Tests.{not-true, not-false}
 use mathlib.Core.Path.{refl}
 use Rattle.lattice.proofs.both.Statement.{statement}
 use Rattle.lattice.proofs.both.Tie as tie
-use Rattle.lattice.proofs.both.Reads as reads
-use Rattle.lattice.proofs.both.Lts as lts
 
 returns : tie.Need-returns
 returns c = rw (not-true (c .before .args .a) (c .if1 .taken)) refl

@@ -1,13 +1,9 @@
-use mathlib.Core.Path.{_≡_}
 use native.Mathlib.Omega.{arith}
 use Rattle.space.specs.Space.{pos}
 use Rattle.lattice.proofs.Formulas.{cells-count, vertices-count}
 use borrow.Author.Needs.{needs}
 use Rattle.lattice.proofs.count.Statement.{statement}
 use Rattle.lattice.proofs.count.Tie as tie
-use Rattle.lattice.proofs.count.Reads as reads
-use Rattle.lattice.proofs.count.Lts as lts
-use Rattle.lattice.proofs.times.Reads as times-reads
 
 add-ox : tie.Need-add-ox
 add-ox c = search needs

@@ -6,9 +6,6 @@ use Rattle.space.specs.Space.{pos}
 use Rattle.lattice.specs.Storing.{rowCells, layerCells}
 use Rattle.lattice.proofs.layer_at.Statement.{statement}
 use Rattle.lattice.proofs.layer_at.Tie as tie
-use Rattle.lattice.proofs.layer_at.Reads as reads
-use Rattle.lattice.proofs.layer_at.Lts as lts
-use Rattle.lattice.proofs.row_at.Reads as row-at-reads
 
 abbrev Inv-loop : tie.InvT-loop
 Inv-loop cells₀ at nx ny nz k n here₀ j₀ cells here j = (j ≤ (ny + 1) / 2) × Storing cells₀ at (layerCells (pos nx ny nz) k) cells here (run ((ny + 1) / 2 - j) (rowCells (pos nx ny nz) k) j)

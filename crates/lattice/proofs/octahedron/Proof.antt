@@ -3,9 +3,6 @@ use Rattle.lattice.proofs.Stores.{octa-row, octa-here, octa-long, octa-
 use borrow.Author.Needs.{needs}
 use Rattle.lattice.proofs.octahedron.Statement.{statement}
 use Rattle.lattice.proofs.octahedron.Tie as tie
-use Rattle.lattice.proofs.octahedron.Reads as reads
-use Rattle.lattice.proofs.octahedron.Lts as lts
-use Rattle.lists.proofs.store4.Reads as store4-reads
 
 returns : tie.Need-returns
 returns c =

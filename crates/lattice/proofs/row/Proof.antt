@@ -1,16 +1,11 @@
-use mathlib.Core.Path.{_≡_, refl}
-use Prim.Native.Nat.{_+_, _-_, _≤_}
+use Prim.Native.Nat.{_-_, _≤_}
 use native.Mathlib.Omega.{arith}
-use lib.ListN.{length}
 use Rattle.lists.specs.Runs.{run, Storing}
 use Rattle.lists.proofs.Running.{loop-done, loop-start, storing-on, storing-length, storing-room, room-first}
 use Rattle.lattice.specs.Storing.{numbersAt, rowNumbers}
 use Rattle.lattice.proofs.Stores.{row-x, row-y, row-z}
 use Rattle.lattice.proofs.row.Statement.{statement}
 use Rattle.lattice.proofs.row.Tie as tie
-use Rattle.lattice.proofs.row.Reads as reads
-use Rattle.lattice.proofs.row.Lts as lts
-use Rattle.lattice.proofs.octahedron.Reads as octahedron-reads
 
 abbrev Inv-loop : tie.InvT-loop
 Inv-loop cells₀ at n h tx ty tz centre low line layer deep here₀ i₀ cells here i = (i ≤ n) × Storing cells₀ at (rowNumbers n h tx ty tz centre low line layer deep) cells here (run (n - i) (numbersAt n h tx ty tz centre low line layer deep) i)

@@ -6,11 +6,6 @@ use Rattle.lattice.proofs.Tables.{row-is}
 use borrow.Author.Needs.{needs}
 use Rattle.lattice.proofs.row_at.Statement.{statement}
 use Rattle.lattice.proofs.row_at.Tie as tie
-use Rattle.lattice.proofs.row_at.Reads as reads
-use Rattle.lattice.proofs.row_at.Lts as lts
-use Rattle.lattice.proofs.both.Reads as both-reads
-use Rattle.lattice.proofs.row.Reads as row-reads
-use Rattle.lattice.proofs.slot.Reads as slot-reads
 
 add-ox : tie.Need-add-ox
 add-ox c = search needs

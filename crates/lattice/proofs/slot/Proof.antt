@@ -3,8 +3,6 @@ use native.Mathlib.Omega.{arith}
 use Rattle.lattice.proofs.Tables.{small-slot}
 use Rattle.lattice.proofs.slot.Statement.{statement}
 use Rattle.lattice.proofs.slot.Tie as tie
-use Rattle.lattice.proofs.slot.Reads as reads
-use Rattle.lattice.proofs.slot.Lts as lts
 
 mul-result : tie.Need-mul-result
 mul-result c = let s = c in omega (arith, small-slot (s .args .j) (s .args .k) (s .args .n) (s .args .m) (s .pre .0) (s .pre .1) (s .pre .2) (s .pre .3))

@@ -9,9 +9,6 @@ use Rattle.lattice.specs.Storing.{layerCells, allCells}
 use Rattle.lattice.proofs.Tables.{all-cells}
 use Rattle.lattice.proofs.store_cells.Statement.{statement}
 use Rattle.lattice.proofs.store_cells.Tie as tie
-use Rattle.lattice.proofs.store_cells.Reads as reads
-use Rattle.lattice.proofs.store_cells.Lts as lts
-use Rattle.lattice.proofs.layer_at.Reads as layer-at-reads
 
 abbrev Inv-loop : tie.InvT-loop
 Inv-loop cells₀ nx ny nz n here₀ k₀ cells here k = (k ≤ (nz + 1) / 2) × Storing cells₀ 0 (allCells (pos nx ny nz)) cells here (run ((nz + 1) / 2 - k) (layerCells (pos nx ny nz)) k)

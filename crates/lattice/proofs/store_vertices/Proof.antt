@@ -5,9 +5,6 @@ use Rattle.lattice.proofs.Tables.{vertices-split}
 use borrow.Author.Needs.{needs}
 use Rattle.lattice.proofs.store_vertices.Statement.{statement}
 use Rattle.lattice.proofs.store_vertices.Tie as tie
-use Rattle.lattice.proofs.store_vertices.Reads as reads
-use Rattle.lattice.proofs.store_vertices.Lts as lts
-use Rattle.lattice.proofs.vertex_box.Reads as vertex-box-reads
 
 add-vertex-box : tie.Need-add-vertex-box
 add-vertex-box c = search needs

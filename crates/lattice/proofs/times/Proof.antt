@@ -3,8 +3,6 @@ use Rattle.lattice.proofs.Formulas.{small-product}
 use mathlib.Core.Path.{refl}
 use Rattle.lattice.proofs.times.Statement.{statement}
 use Rattle.lattice.proofs.times.Tie as tie
-use Rattle.lattice.proofs.times.Reads as reads
-use Rattle.lattice.proofs.times.Lts as lts
 
 mul-result : tie.Need-mul-result
 mul-result c = let s = c in omega (arith, small-product (s .args .a) (s .args .b) (s .args .c) (s .pre .0) (s .pre .1) (s .pre .2))

@@ -1,14 +1,11 @@
-use Prim.Native.Nat.{_+_, _-_, _≤_}
+use Prim.Native.Nat.{_-_, _≤_}
 use native.Mathlib.Omega.{arith}
 use Rattle.lists.specs.Runs.{run, Storing}
 use Rattle.lists.proofs.Running.{loop-start, loop-next, loop-room, loop-done, storing-length}
 use Rattle.plan.specs.Vertices.{tripleAt, pointAt}
-use Rattle.lattice.specs.Storing.{rowOf, layerOf, boxOf}
+use Rattle.lattice.specs.Storing.{layerOf}
 use Rattle.lattice.proofs.vertex_box.Statement.{statement}
 use Rattle.lattice.proofs.vertex_box.Tie as tie
-use Rattle.lattice.proofs.vertex_box.Reads as reads
-use Rattle.lattice.proofs.vertex_box.Lts as lts
-use Rattle.lattice.proofs.vertex_layer.Reads as vertex-layer-reads
 
 abbrev Inv-loop : tie.InvT-loop
 Inv-loop triples₀ points₀ at p n m l e here₀ k₀ triples points here k = (k ≤ l) × Storing triples₀ at (run l (layerOf tripleAt e n m) 0) triples here (run (l - k) (layerOf tripleAt e n m) k) × Storing points₀ at (run l (layerOf (pointAt p) e n m) 0) points here (run (l - k) (layerOf (pointAt p) e n m) k)

@@ -1,14 +1,11 @@
-use Prim.Native.Nat.{_+_, _-_, _≤_}
+use Prim.Native.Nat.{_-_, _≤_}
 use native.Mathlib.Omega.{arith}
 use Rattle.lists.specs.Runs.{run, Storing}
 use Rattle.lists.proofs.Running.{loop-start, loop-next, loop-room, loop-done, storing-length}
 use Rattle.plan.specs.Vertices.{tripleAt, pointAt}
-use Rattle.lattice.specs.Storing.{rowOf, layerOf, boxOf}
+use Rattle.lattice.specs.Storing.{rowOf}
 use Rattle.lattice.proofs.vertex_layer.Statement.{statement}
 use Rattle.lattice.proofs.vertex_layer.Tie as tie
-use Rattle.lattice.proofs.vertex_layer.Reads as reads
-use Rattle.lattice.proofs.vertex_layer.Lts as lts
-use Rattle.lattice.proofs.vertex_row_at.Reads as vertex-row-at-reads
 
 abbrev Inv-loop : tie.InvT-loop
 Inv-loop triples₀ points₀ at p n m e k here₀ j₀ triples points here j = (j ≤ m) × Storing triples₀ at (run m (rowOf tripleAt e n k) 0) triples here (run (m - j) (rowOf tripleAt e n k) j) × Storing points₀ at (run m (rowOf (pointAt p) e n k) 0) points here (run (m - j) (rowOf (pointAt p) e n k) j)

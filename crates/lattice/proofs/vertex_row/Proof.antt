@@ -1,5 +1,5 @@
-use mathlib.Core.Path.{_≡_, refl, ap, _∙_}
-use mathlib.Core.List.{List, [], _∷_}
+use mathlib.Core.Path.{refl, ap, _∙_}
+use mathlib.Core.List.{[], _∷_}
 use Prim.Native.Nat.{ℕ, _+_, _*_, _-_, _≤_}
 use native.Mathlib.Omega.{arith}
 use lib.Seq.{sets}
@@ -9,10 +9,6 @@ use Rattle.plan.specs.Plan.{placeOf}
 use Rattle.lattice.specs.Storing.{rowTriples, rowPoints}
 use Rattle.lattice.proofs.vertex_row.Statement.{statement}
 use Rattle.lattice.proofs.vertex_row.Tie as tie
-use Rattle.lattice.proofs.vertex_row.Reads as reads
-use Rattle.lattice.proofs.vertex_row.Lts as lts
-use Rattle.lists.proofs.store3.Reads as store3-reads
-use Rattle.plan.proofs.place.Reads as place-reads
 
 abbrev Inv-loop : tie.InvT-loop
 Inv-loop triples₀ points₀ at n e y z py pz origin half here₀ i₀ triples points here i = (i ≤ n) × Storing triples₀ at (rowTriples e y z n) triples here (run (n - i) (λ k. (2 * k + e) ∷ y ∷ z ∷ []) i) × Storing points₀ at (rowPoints origin half e py pz n) points here (run (n - i) (λ k. placeOf origin half (2 * k + e) ∷ py ∷ pz ∷ []) i)

@@ -1,15 +1,10 @@
 use mathlib.Core.Path.{sym, ap₂}
 use Prim.Native.Nat.{ℕ}
-use native.Mathlib.Omega.{arith}
 use Rattle.lists.proofs.Running.{stored-as, room-as}
 use Rattle.lattice.specs.Storing.{rowPoints}
 use borrow.Author.Needs.{needs}
 use Rattle.lattice.proofs.vertex_row_at.Statement.{statement}
 use Rattle.lattice.proofs.vertex_row_at.Tie as tie
-use Rattle.lattice.proofs.vertex_row_at.Reads as reads
-use Rattle.lattice.proofs.vertex_row_at.Lts as lts
-use Rattle.lattice.proofs.vertex_row.Reads as vertex-row-reads
-use Rattle.plan.proofs.place.Reads as place-reads
 
 mul-y : tie.Need-mul-y
 mul-y c = search needs

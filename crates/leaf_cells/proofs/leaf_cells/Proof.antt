@@ -7,11 +7,6 @@ use Rattle.leaf_cells.proofs.Keys.{small, placed}
 use Rattle.leaf_cells.proofs.Storing.{sides-turn, leaf-numbers}
 use Rattle.leaf_cells.proofs.leaf_cells.Statement.{statement}
 use Rattle.leaf_cells.proofs.leaf_cells.Tie as tie
-use Rattle.leaf_cells.proofs.leaf_cells.Reads as reads
-use Rattle.leaf_cells.proofs.leaf_cells.Lts as lts
-use Rattle.face_cells.proofs.six_faces.Reads as six-faces-reads
-use Rattle.octree.proofs.along.Reads as along-reads
-use Rattle.sides.proofs.sides_at.Reads as sides-at-reads
 
 sides-at-requires : tie.Need-sides-at-requires
 sides-at-requires c κs = search needs

@@ -4,9 +4,6 @@ use Prim.Native.Nat.{_-_}
 use Rattle.leaf_cells.proofs.Keys.{Keying, keying-start, keying-leaf, keying-on, keying-done}
 use Rattle.leaf_cells.proofs.leaf_keys.Statement.{statement}
 use Rattle.leaf_cells.proofs.leaf_keys.Tie as tie
-use Rattle.leaf_cells.proofs.leaf_keys.Reads as reads
-use Rattle.leaf_cells.proofs.leaf_keys.Lts as lts
-use Rattle.leaf_cells.proofs.store_keys.Reads as store-keys-reads
 
 abbrev Inv-loop : tie.InvT-loop
 Inv-loop work₀ list leaves n₀ work n = Keying work₀ list leaves work n

@@ -5,9 +5,6 @@ use Rattle.leaf_cells.proofs.Leafwise.{listed}
 use Rattle.leaf_cells.proofs.Storing.{Emitting, emitting-start, emitting-on, emitting-room, emitting-done}
 use Rattle.leaf_cells.proofs.store_cells.Statement.{statement}
 use Rattle.leaf_cells.proofs.store_cells.Tie as tie
-use Rattle.leaf_cells.proofs.store_cells.Reads as reads
-use Rattle.leaf_cells.proofs.store_cells.Lts as lts
-use Rattle.leaf_cells.proofs.leaf_cells.Reads as leaf-cells-reads
 
 abbrev Inv-loop : tie.InvT-loop
 Inv-loop split nx ny nz levels work vertices list leaves out₀ n₀ at₀ out n at = Emitting split nx ny nz levels work vertices list leaves out₀ out n at

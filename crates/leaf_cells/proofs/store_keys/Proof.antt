@@ -5,10 +5,6 @@ use lib.Seq.{sets}
 use Rattle.leaf_cells.proofs.Keys.{small, keys-are}
 use Rattle.leaf_cells.proofs.store_keys.Statement.{statement}
 use Rattle.leaf_cells.proofs.store_keys.Tie as tie
-use Rattle.leaf_cells.proofs.store_keys.Reads as reads
-use Rattle.leaf_cells.proofs.store_keys.Lts as lts
-use Rattle.leaf_cells.proofs.store_nine.Reads as store-nine-reads
-use Rattle.octree.proofs.along.Reads as along-reads
 
 along-requires : tie.Need-along-requires
 along-requires c κs = search needs

@@ -1,13 +1,11 @@
 use borrow.Author.Needs.{needs}
 use mathlib.Core.Path.{_≡_, refl}
-use Prim.Native.Nat.{ℕ, suc, _+_}
+use Prim.Native.Nat.{suc, _+_}
 use native.Mathlib.Omega.{arith}
 use lib.ListN.{length-set}
 use Rattle.leaf_cells.specs.Listed.{nineKeys}
 use Rattle.leaf_cells.proofs.store_nine.Statement.{statement}
 use Rattle.leaf_cells.proofs.store_nine.Tie as tie
-use Rattle.leaf_cells.proofs.store_nine.Reads as reads
-use Rattle.leaf_cells.proofs.store_nine.Lts as lts
 
 mul-y : tie.Need-mul-y
 mul-y c = search needs

@@ -1,7 +1,6 @@
 -- The proof of the cycle of calls: an octant of level m has measure 10 m, and the walk over the children of level m that are left 10 m + 1 + left.
-use borrow.Author.Needs.{needs}
 use denote.Ref.{now}
-use mathlib.Core.Path.{_≡_, sym, _∙_}
+use mathlib.Core.Path.{_∙_}
 use native.Mathlib.Omega.{arith}
 use Prim.Native.Nat.{ℕ, _<_, _+_, _*_, _-_}
 use Rattle.space.specs.Space.{pos}

@@ -3,9 +3,6 @@ use mathlib.Core.Path.{refl}
 use Rattle.leaves.proofs.Walking.{all-counted}
 use Rattle.leaves.proofs.count_cells.Statement.{statement}
 use Rattle.leaves.proofs.count_cells.Tie as tie
-use Rattle.leaves.proofs.count_cells.Reads as reads
-use Rattle.leaves.proofs.count_cells.Lts as lts
-use Rattle.leaves.proofs.walk_roots.Reads as walk-roots-reads
 
 slice-aggregate-walk-roots : tie.Need-slice-aggregate-walk-roots
 slice-aggregate-walk-roots c = search needs

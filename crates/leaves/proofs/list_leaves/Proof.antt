@@ -2,9 +2,6 @@ use borrow.Author.Needs.{needs}
 use Rattle.leaves.proofs.Walking.{all-listed}
 use Rattle.leaves.proofs.list_leaves.Statement.{statement}
 use Rattle.leaves.proofs.list_leaves.Tie as tie
-use Rattle.leaves.proofs.list_leaves.Reads as reads
-use Rattle.leaves.proofs.list_leaves.Lts as lts
-use Rattle.leaves.proofs.walk_roots.Reads as walk-roots-reads
 
 walk-roots-requires : tie.Need-walk-roots-requires
 walk-roots-requires c κs = search needs

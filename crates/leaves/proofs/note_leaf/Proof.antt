@@ -7,10 +7,6 @@ use Rattle.sides.proofs.Levels.{place-small}
 use Rattle.leaves.proofs.Walking.{walked-as, noted, counted}
 use Rattle.leaves.proofs.note_leaf.Statement.{statement}
 use Rattle.leaves.proofs.note_leaf.Tie as tie
-use Rattle.leaves.proofs.note_leaf.Reads as reads
-use Rattle.leaves.proofs.note_leaf.Lts as lts
-use Rattle.leaves.proofs.pack.Reads as pack-reads
-use Rattle.sides.proofs.count_leaf.Reads as count-leaf-reads
 
 pack-requires : tie.Need-pack-requires
 pack-requires c κs = let b = c .before .before .before in omega (arith, place-small _ _ _ _ _ _ _ _ _ (b .pre .0) (b .pre .1 .0), b .pre .0 .few, b .pre .1 .0 .fits)

@@ -1,15 +1,10 @@
-use borrow.Author.Needs.{needs}
-use mathlib.Core.Path.{_≡_, sym, _∙_}
 use native.Mathlib.Omega.{arith}
 use native.Mathlib.Nat.{mul-le-mul}
-use Prim.Native.Nat.{ℕ, _*_, _≤_, _<_}
+use Prim.Native.Nat.{ℕ, _*_, _≤_}
 use Rattle.octants.specs.Levels.{Dims}
 use Rattle.leaves.proofs.Walking.{Going, going-start, going-root, going-on, going-done}
 use Rattle.leaves.proofs.walk_roots.Statement.{statement}
 use Rattle.leaves.proofs.walk_roots.Tie as tie
-use Rattle.leaves.proofs.walk_roots.Reads as reads
-use Rattle.leaves.proofs.walk_roots.Lts as lts
-use Rattle.leaves.proofs.walk_octant.Reads as walk-octant-reads
 
 record Few (nx ny nz : ℕ) : Type 0 where
   x : 1 ≤ nx

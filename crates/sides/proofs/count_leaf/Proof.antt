@@ -2,10 +2,6 @@ use borrow.Author.Needs.{needs}
 use Rattle.sides.proofs.Levels.{count-link}
 use Rattle.sides.proofs.count_leaf.Statement.{statement}
 use Rattle.sides.proofs.count_leaf.Tie as tie
-use Rattle.sides.proofs.count_leaf.Reads as reads
-use Rattle.sides.proofs.count_leaf.Lts as lts
-use Rattle.sides.proofs.given_at.Reads as given-at-reads
-use Rattle.sides.proofs.sides_at.Reads as sides-at-reads
 
 sides-at-requires : tie.Need-sides-at-requires
 sides-at-requires c κs = search needs

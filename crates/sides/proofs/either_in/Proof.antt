@@ -3,9 +3,6 @@ use mathlib.Core.Path.{sym, _∙_}
 use Rattle.sides.proofs.Laws.{either-first, either-second}
 use Rattle.sides.proofs.either_in.Statement.{statement}
 use Rattle.sides.proofs.either_in.Tie as tie
-use Rattle.sides.proofs.either_in.Reads as reads
-use Rattle.sides.proofs.either_in.Lts as lts
-use Rattle.sides.proofs.split_in.Reads as split-in-reads
 
 split-in-requires : tie.Need-split-in-requires
 split-in-requires c κs = search needs

@@ -3,10 +3,6 @@ use borrow.Author.Tests.{not-true, not-false}
 use Rattle.sides.proofs.Laws.{equal-low, equal-high}
 use Rattle.sides.proofs.equal_of.Statement.{statement}
 use Rattle.sides.proofs.equal_of.Tie as tie
-use Rattle.sides.proofs.equal_of.Reads as reads
-use Rattle.sides.proofs.equal_of.Lts as lts
-use Rattle.sides.proofs.either_in.Reads as either-in-reads
-use Rattle.sides.proofs.step_to.Reads as step-to-reads
 
 returns : tie.Need-returns
 returns c = equal-low _ _ _ _ _ _ _ (not-true (c .before .before .args .high) (c .if1 .taken))

@@ -3,9 +3,6 @@ use native.Mathlib.Omega.{arith}
 use Rattle.sides.proofs.Levels.{given-equal}
 use Rattle.sides.proofs.given_at.Statement.{statement}
 use Rattle.sides.proofs.given_at.Tie as tie
-use Rattle.sides.proofs.given_at.Reads as reads
-use Rattle.sides.proofs.given_at.Lts as lts
-use Rattle.sides.proofs.one.Reads as one-reads
 
 enum-told : tie.Need-enum-told
 enum-told c = search needs

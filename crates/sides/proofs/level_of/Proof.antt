@@ -3,10 +3,6 @@ use native.Mathlib.Omega.{arith}
 use Rattle.sides.proofs.Levels.{Small, small, level-none, level-is}
 use Rattle.sides.proofs.level_of.Statement.{statement}
 use Rattle.sides.proofs.level_of.Tie as tie
-use Rattle.sides.proofs.level_of.Reads as reads
-use Rattle.sides.proofs.level_of.Lts as lts
-use Rattle.octree.proofs.along.Reads as along-reads
-use Rattle.sides.proofs.depth_of.Reads as depth-of-reads
 
 returns : tie.Need-returns
 returns c = level-none _ _ _ _ _ (c .if1 .taken)

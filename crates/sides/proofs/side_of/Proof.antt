@@ -1,16 +1,9 @@
 use borrow.Author.Needs.{needs}
 use borrow.Author.Tests.{not-true, not-false}
-use mathlib.Core.Path.{_≡_, sym, _∙_}
+use mathlib.Core.Path.{sym, _∙_}
 use Rattle.sides.proofs.Laws.{side-border, side-split, side-root, side-equal, side-coarser}
 use Rattle.sides.proofs.side_of.Statement.{statement}
 use Rattle.sides.proofs.side_of.Tie as tie
-use Rattle.sides.proofs.side_of.Reads as reads
-use Rattle.sides.proofs.side_of.Lts as lts
-use Rattle.sides.proofs.equal_of.Reads as equal-of-reads
-use Rattle.sides.proofs.reach.Reads as reach-reads
-use Rattle.sides.proofs.split_in.Reads as split-in-reads
-use Rattle.sides.proofs.step_to.Reads as step-to-reads
-use Rattle.sides.proofs.turn_of.Reads as turn-of-reads
 
 reach-requires : tie.Need-reach-requires
 reach-requires c κs = search needs

@@ -5,11 +5,6 @@ use native.Mathlib.Omega.{arith}
 use Rattle.sides.proofs.Levels.{Small, small, both-held, place-small, sides-link}
 use Rattle.sides.proofs.sides_at.Statement.{statement}
 use Rattle.sides.proofs.sides_at.Tie as tie
-use Rattle.sides.proofs.sides_at.Reads as reads
-use Rattle.sides.proofs.sides_at.Lts as lts
-use Rattle.octree.proofs.along.Reads as along-reads
-use Rattle.sides.proofs.level_of.Reads as level-of-reads
-use Rattle.sides.proofs.sides_of.Reads as sides-of-reads
 
 level-of-requires : tie.Need-level-of-requires
 level-of-requires c κs = search needs

@@ -2,9 +2,6 @@ use borrow.Author.Needs.{needs}
 use Rattle.sides.proofs.Levels.{sides-in}
 use Rattle.sides.proofs.sides_of.Statement.{statement}
 use Rattle.sides.proofs.sides_of.Tie as tie
-use Rattle.sides.proofs.sides_of.Reads as reads
-use Rattle.sides.proofs.sides_of.Lts as lts
-use Rattle.sides.proofs.side_of.Reads as side-of-reads
 
 side-of-requires : tie.Need-side-of-requires
 side-of-requires c κs = search needs

@@ -1,10 +1,8 @@
 use borrow.Author.Needs.{needs}
-use mathlib.Core.Path.{sym, _∙_}
+use mathlib.Core.Path.{_∙_}
 use Rattle.sides.proofs.Laws.{in-x, in-y, in-z}
 use Rattle.sides.proofs.split_in.Statement.{statement}
 use Rattle.sides.proofs.split_in.Tie as tie
-use Rattle.sides.proofs.split_in.Reads as reads
-use Rattle.sides.proofs.split_in.Lts as lts
 
 hits-requires : tie.Need-hits-requires
 hits-requires c κs = search needs

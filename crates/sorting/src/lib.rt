@@ -1,0 +1,1 @@
+// Entries of a list, sorted and each once: definitions and laws, no code.
