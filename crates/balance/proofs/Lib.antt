@@ -1,6 +1,5 @@
--- Laws of the shell, of passes over a level, and of the balance from the finest level up.
+-- Laws of the shell, of rows and of levels.
 pub mod Merging
 pub mod Shells
-pub mod Sweeping
-pub mod Passing
-pub mod Steadiness
+pub mod Rowing
+pub mod Levelling

@@ -1,6 +1,6 @@
 -- Marking the shell of a row. Assumes nothing.
 use mathlib.Core.Path.{_≡_, refl, ap, sym, _∙_, subst}
-use mathlib.Core.Bool.{Bool, true, false, _||_}
+use mathlib.Core.Bool.{Bool, true, false, _||_, or-true, or-false, or-assoc}
 use mathlib.Core.List.{List}
 use Prim.Native.Nat.{ℕ, zero, suc, _+_, _*_, _≤_, _<_}
 use native.Mathlib.Omega.{arith}
@@ -13,26 +13,15 @@ use lib.ListN.{length, getD, set, length-set}
 use lib.Seq.{getD-set-same, getD-set-other}
 use Rattle.lists.specs.Tests.{any}
 use Rattle.lists.proofs.Any.{any-found}
-use Rattle.balance.specs.Shell.{one, from, some, Merged, touched}
-
-or-true : (a : Bool) → true ≡ a || true
-or-true true = refl
-or-true false = refl
-
-or-false : (a : Bool) → a ≡ a || false
-or-false true = refl
-or-false false = refl
-
-or-assoc : (a b c : Bool) → (a || b) || c ≡ a || (b || c)
-or-assoc true b c = refl
-or-assoc false b c = refl
+use Rattle.octree.specs.Sweep.{one}
+use Rattle.balance.specs.Parts.{from, some, Merged, touchedOf}
 
 -- what `mark` gives
 pub mark-one : (a b : ℕ) → eqb b 1 ≡ true → true ≡ eqb a 1 || eqb b 1
-mark-one a b h = or-true (eqb a 1) ∙ ap (λ (t : Bool). eqb a 1 || t) (sym h)
+mark-one a b h = sym (or-true (eqb a 1)) ∙ ap (λ (t : Bool). eqb a 1 || t) (sym h)
 
 pub mark-none : (a b : ℕ) → eqb b 1 ≡ false → eqb a 1 ≡ eqb a 1 || eqb b 1
-mark-none a b h = or-false (eqb a 1) ∙ ap (λ (t : Bool). eqb a 1 || t) (sym h)
+mark-none a b h = sym (or-false (eqb a 1)) ∙ ap (λ (t : Bool). eqb a 1 || t) (sym h)
 
 -- ---- a run of marks
 
@@ -81,23 +70,23 @@ some-none zero lo f h = refl
 some-none (suc n) lo f h = rw (some-none n lo f (omega arith), lt-leb lo n h)
 
 -- no row yet, and one row more
-pub rows-none : (a : List ℕ) (w lo : ℕ) (F : ℕ → ℕ → Bool) → Merged a a w (λ x. some lo lo (λ y. F y x))
-rows-none a w lo F =
+pub marks-none : (a : List ℕ) (w lo : ℕ) (F : ℕ → ℕ → Bool) → Merged a a w (λ x. some lo lo (λ y. F y x))
+marks-none a w lo F =
     record {
       long = refl;
-      marks = λ x h. or-false (one a (x + 1)) ∙ ap (λ (t : Bool). one a (x + 1) || t) (sym (some-none lo lo (λ y. F y x) (omega arith)));
+      marks = λ x h. sym (or-false (one a (x + 1))) ∙ ap (λ (t : Bool). one a (x + 1) || t) (sym (some-none lo lo (λ y. F y x) (omega arith)));
       before = refl;
       past = λ j h. refl;
     }
 
-pub rows-more : {a b c : List ℕ} {w : ℕ} (lo y : ℕ) (F : ℕ → ℕ → Bool) → lo ≤ y → Merged a b w (λ x. some lo y (λ k. F k x)) → Merged b c w (F y)
+pub marks-more : {a b c : List ℕ} {w : ℕ} (lo y : ℕ) (F : ℕ → ℕ → Bool) → lo ≤ y → Merged a b w (λ x. some lo y (λ k. F k x)) → Merged b c w (F y)
     → Merged a c w (λ x. some lo (y + 1) (λ k. F k x))
 unfolding any
-rows-more lo y F h p q = merged-then p q (λ x. rw (add-one y, le-leb lo y h))
+marks-more lo y F h p q = merged-then p q (λ x. rw (add-one y, le-leb lo y h))
 
-pub rows-end : {a b : List ℕ} {w : ℕ} (lo y n : ℕ) (F : ℕ → ℕ → Bool) → Merged a b w (λ x. some lo y (λ k. F k x)) → y ≤ n → n ≤ y
+pub marks-end : {a b : List ℕ} {w : ℕ} (lo y n : ℕ) (F : ℕ → ℕ → Bool) → Merged a b w (λ x. some lo y (λ k. F k x)) → y ≤ n → n ≤ y
     → Merged a b w (λ x. some lo n (λ k. F k x))
-rows-end {a} {b} {w} lo y n F p h g =
+marks-end {a} {b} {w} lo y n F p h g =
     let e : y ≡ n = omega arith in
     subst (λ (k : ℕ). Merged a b w (λ x. some lo k (λ k. F k x))) e p
 
@@ -113,12 +102,12 @@ module _ (seen : List ℕ) (x : ℕ) where
   double : 2 * x + 0 ≡ 2 * x
   double = omega arith
 
-  pub touched-first : one seen (2 * x) ≡ true → true ≡ touched seen x
+  pub touched-first : one seen (2 * x) ≡ true → true ≡ touchedOf seen x
   touched-first h = any-found (λ e. one seen (2 * x + e)) 4 0 (omega arith) (ap (one seen) double ∙ h)
 
-  pub touched-later : (e : ℕ) → e < 4 → one seen (2 * x + e) ≡ true → true ≡ touched seen x
+  pub touched-later : (e : ℕ) → e < 4 → one seen (2 * x + e) ≡ true → true ≡ touchedOf seen x
   touched-later e f h = any-found (λ e. one seen (2 * x + e)) 4 e f h
 
-  pub touched-last : one seen (2 * x) ≡ false → one seen (2 * x + 1) ≡ false → one seen (2 * x + 2) ≡ false → one seen (2 * x + 3) ≡ touched seen x
+  pub touched-last : one seen (2 * x) ≡ false → one seen (2 * x + 1) ≡ false → one seen (2 * x + 2) ≡ false → one seen (2 * x + 3) ≡ touchedOf seen x
   unfolding any
   touched-last p q r = rw (double, p, q, r)

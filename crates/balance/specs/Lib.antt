@@ -1,3 +1,2 @@
 -- The balance by the shell, and the test that a table is balanced.
-pub mod Shell
-pub mod Sweep
+pub mod Parts

@@ -1,18 +1,21 @@
 // The balance by the shell: an octant is split where a split octant of the level below touches it.
+use octree::Level;
+use octree::Roots;
+use octree::below;
+use octree::level_at;
 ghost use mathlib.Core.Path.{_≡_};
-ghost use mathlib.Core.Bool.{Bool, true, false, not, _||_, _&&_};
-ghost use mathlib.Core.List.{List};
-ghost use Prim.Native.Nat.{ℕ, suc, _+_, _*_, _-_, _%_, _/_, _^_, _≤_, _<_};
+ghost use mathlib.Core.Bool.{true, not, _||_, _&&_};
+ghost use Prim.Native.Nat.{_+_, _*_, _-_, _^_, _≤_, _<_};
 ghost use lib.Dec.{eqb};
-ghost use lib.ListN.{length, getD};
-ghost use Rattle.space.specs.Space.{pos};
+ghost use lib.ListN.{length};
 ghost use Rattle.lists.specs.Tests.{any, bit};
-ghost use Rattle.octants.specs.Oct.{Tree, balanced};
-ghost use Rattle.octants.specs.Table.{depth, size, off};
-ghost use Rattle.octants.specs.Levels.{Level, Dims, twice};
-ghost use Rattle.octants.specs.Judge.{unsteady, isGraded};
-ghost use Rattle.balance.specs.Shell.{one, Merged, inRow, inRows, inLayers, Ends, Blank, touched as touchedOf, Seen};
-ghost use Rattle.balance.specs.Sweep.{Swept, Pass, balancedByte, gives, Shows};
+ghost use Rattle.lists.specs.Tables.{allAtMost};
+ghost use Rattle.space.specs.Levels.{size};
+ghost use Rattle.octants.specs.Table.{balanceOf};
+ghost use Rattle.octants.specs.Judge.{isGraded};
+ghost use Rattle.octree.specs.Parts.{rootsOf, countsOf, Covers, belowOf, Stacked};
+ghost use Rattle.octree.specs.Sweep.{one, Swept};
+ghost use Rattle.balance.specs.Parts.{Merged, inRows, LayersAsked, inLayers, Ends, Blank, touchedOf, Seen, LevelAsked, balancedByte, gives};
 
 // A marked entry stays so, and another is marked where b is 1.
 fn mark(a: u8, b: u8) -> u8
@@ -47,21 +50,14 @@ fn merge_rows(seen: &mut [u8], s: &[u8], o: usize, w: usize, y0: usize, y1: usiz
     }
 }
 
-// Marks the split octants of these rows of the layers z0 up to z1, of h rows each, of the level that begins at o.
-fn merge_layers(
-    seen: &mut [u8],
-    s: &[u8],
-    o: usize,
-    w: usize,
-    h: usize,
-    y0: usize,
-    y1: usize,
-    z0: usize,
-    z1: usize,
-)
-    requires { ⌜ (w + 2 ≤ length (now seen)) × (y0 ≤ y1) × (y1 ≤ h) × (z0 ≤ z1) × (w * h < 2 ^ 32) × (o + z1 * (w * h) ≤ length (now s)) ⌝ }
-    ensures { λ _. ⌜ Merged (now (seen .entry)) (now (seen .exit)) w (inLayers (now (s .entry)) o w h y0 y1 z0 z1) ⌝ }
+// Marks the split octants of these rows of the layers z0 up to z1 of a level.
+fn merge_layers(seen: &mut [u8], s: &[u8], v: Level, y0: usize, y1: usize, z0: usize, z1: usize)
+    requires { ⌜ LayersAsked (now seen) (now s) v y0 y1 z0 z1 ⌝ }
+    ensures { λ _. ⌜ Merged (now (seen .entry)) (now (seen .exit)) (v .nx) (inLayers (now (s .entry)) v y0 y1 z0 z1) ⌝ }
 {
+    let o = v.start;
+    let w = v.nx;
+    let h = v.ny;
     let mut z = z0;
     while z < z1 {
         merge_rows(seen, s, o + z * (w * h), w, y0, y1);
@@ -85,21 +81,20 @@ fn end_near(y: usize, n: usize) -> usize
     if y + 1 == n { 2 * n } else { 2 * y + 3 }
 }
 
-// Marks the shell of row (y, z) of a level with nx, ny and nz octants along the axes. The level below begins at p.
-fn shell(seen: &mut [u8], s: &[u8], p: usize, nx: usize, ny: usize, nz: usize, y: usize, z: usize)
-    requires { ⌜ Blank (now seen) (2 * nx) × Level nx ny nz × (y < ny) × (z < nz) × (p + size (twice (pos nx ny nz)) ≤ length (now s)) ⌝ }
-    ensures { λ _. ⌜ Seen (now (seen .exit)) (now (s .entry)) p (twice (pos nx ny nz)) nx y z ⌝ }
+// Marks the shell of row (y, z) of a level: what the level below has beside it.
+fn shell(seen: &mut [u8], s: &[u8], v: Level, y: usize, z: usize)
+    requires { ⌜ Blank (now seen) (2 * v .nx) × Stacked (now s) v × (y < v .ny) × (z < v .nz) ⌝ }
+    ensures { λ _. ⌜ Seen (now (seen .exit)) (now (s .entry)) (belowOf v) (v .nx) y z ⌝ }
 {
+    let p = below(v);
     merge_layers(
         seen,
         s,
         p,
-        2 * nx,
-        2 * ny,
         first_near(y),
-        end_near(y, ny),
+        end_near(y, v.ny),
         first_near(z),
-        end_near(z, nz),
+        end_near(z, v.nz),
     );
 }
 
@@ -145,53 +140,38 @@ fn split_row(s: &mut [u8], i: usize, n: usize, seen: &[u8])
     }
 }
 
-// Balances row q, of ny rows to a layer, of the level that begins at o, by the level below, which follows.
-fn balance_row(s: &mut [u8], o: usize, nx: usize, ny: usize, nz: usize, q: usize)
-    requires { ⌜ Pass o nx ny nz (length (now s)) × (q < ny * nz) ⌝ }
-    ensures { λ _. ⌜ Swept (now (s .entry)) (now (s .exit)) (o + q * nx) nx (λ x. balancedByte (now (s .entry)) o (pos nx ny nz) (q * nx + x)) ⌝ }
+// Balances row q of a level, by the level below.
+fn balance_row(s: &mut [u8], v: Level, q: usize)
+    requires { ⌜ LevelAsked (now s) v × (q < v .ny * v .nz) ⌝ }
+    ensures { λ _. ⌜ Swept (now (s .entry)) (now (s .exit)) (v .start + q * v .nx) (v .nx) (λ x. balancedByte (now (s .entry)) v (q * v .nx + x)) ⌝ }
 {
     let mut seen = [0u8; 1026];
-    shell(&mut seen, s, o + nx * ny * nz, nx, ny, nz, q % ny, q / ny);
-    split_row(s, o + q * nx, nx, &seen);
+    shell(&mut seen, s, v, q % v.ny, q / v.ny);
+    split_row(s, v.start + q * v.nx, v.nx, &seen);
 }
 
-// Balances the level that begins at o, by the level below, which follows.
-fn balance_level(s: &mut [u8], o: usize, nx: usize, ny: usize, nz: usize)
-    requires { ⌜ Pass o nx ny nz (length (now s)) ⌝ }
-    ensures { λ _. ⌜ Swept (now (s .entry)) (now (s .exit)) o (nx * ny * nz) (balancedByte (now (s .entry)) o (pos nx ny nz)) ⌝ }
+// Balances a level, by the level below.
+fn balance_level(s: &mut [u8], v: Level)
+    requires { ⌜ LevelAsked (now s) v ⌝ }
+    ensures { λ _. ⌜ Swept (now (s .entry)) (now (s .exit)) (v .start) (size (countsOf v)) (balancedByte (now (s .entry)) v) ⌝ }
 {
-    let rows = ny * nz;
+    let rows = v.ny * v.nz;
     let mut q = 0;
     while q < rows {
-        balance_row(s, o, nx, ny, nz, q);
+        balance_row(s, v, q);
         q += 1;
     }
 }
 
-// Balances the level j levels down.
-fn balance_at(s: &mut [u8], dx: usize, dy: usize, dz: usize, j: usize)
-    requires { ⌜ Dims dx dy dz × (j ≤ 3) × (off (pos dx dy dz) (suc (suc j)) ≤ length (now s)) ⌝ }
-    ensures { λ _. ⌜ Swept (now (s .entry)) (now (s .exit)) (off (pos dx dy dz) j) (size (depth (pos dx dy dz) j)) (balancedByte (now (s .entry)) (off (pos dx dy dz) j) (depth (pos dx dy dz) j)) ⌝ }
-{
-    let o = octree::begin(dx, dy, dz, j);
-    balance_level(
-        s,
-        o,
-        octree::along(dx, j),
-        octree::along(dy, j),
-        octree::along(dz, j),
-    );
-}
-
 // Splits what the grading asks for, from level 2 up to the roots.
-pub fn balance(s: &mut [u8], dx: usize, dy: usize, dz: usize, l: usize)
-    requires { ⌜ Dims dx dy dz × (1 ≤ l) × (l ≤ 5) × (length (now s) ≡ off (pos dx dy dz) l) ⌝ }
-    ensures { λ _. ⌜ ((r : Tree) → Shows (pos dx dy dz) l (now (s .entry)) r 0 l → Shows (pos dx dy dz) l (now (s .exit)) (balanced l (pos dx dy dz) r) 0 l) ⌝ }
+pub fn balance(s: &mut [u8], d: Roots)
+    requires { ⌜ Covers d (length (now s)) × (1 ≤ d .levels) × (allAtMost 1 (now s) ≡ true) ⌝ }
+    ensures { λ _. ⌜ now (s .exit) ≡ balanceOf (rootsOf d) (d .levels) (now (s .entry)) ⌝ }
 {
-    let mut j = l - 1;
+    let mut j = d.levels - 1;
     while 0 < j {
         j -= 1;
-        balance_at(s, dx, dy, dz, j);
+        balance_level(s, level_at(d, j));
     }
 }
 
@@ -221,25 +201,25 @@ fn row_gives(s: &[u8], i: usize, n: usize, seen: &[u8]) -> bool
     false
 }
 
-// Whether row q of the level that begins at o has an octant that the balance would split.
-fn row_unsteady(s: &[u8], o: usize, nx: usize, ny: usize, nz: usize, q: usize) -> bool
-    requires { ⌜ Pass o nx ny nz (length (now s)) × (q < ny * nz) ⌝ }
-    ensures { λ r. ⌜ r ≡ any nx (λ x. gives (now (s .entry)) o (pos nx ny nz) (q * nx + x)) ⌝ }
+// Whether row q of a level has an octant that the balance would split.
+fn row_unsteady(s: &[u8], v: Level, q: usize) -> bool
+    requires { ⌜ LevelAsked (now s) v × (q < v .ny * v .nz) ⌝ }
+    ensures { λ r. ⌜ r ≡ any (v .nx) (λ x. gives (now (s .entry)) v (q * v .nx + x)) ⌝ }
 {
     let mut seen = [0u8; 1026];
-    shell(&mut seen, s, o + nx * ny * nz, nx, ny, nz, q % ny, q / ny);
-    row_gives(s, o + q * nx, nx, &seen)
+    shell(&mut seen, s, v, q % v.ny, q / v.ny);
+    row_gives(s, v.start + q * v.nx, v.nx, &seen)
 }
 
-// Whether the level that begins at o has an octant that the balance would split.
-fn level_unsteady(s: &[u8], o: usize, nx: usize, ny: usize, nz: usize) -> bool
-    requires { ⌜ Pass o nx ny nz (length (now s)) ⌝ }
-    ensures { λ r. ⌜ r ≡ any (nx * ny * nz) (gives (now (s .entry)) o (pos nx ny nz)) ⌝ }
+// Whether a level has an octant that the balance would split.
+fn level_unsteady(s: &[u8], v: Level) -> bool
+    requires { ⌜ LevelAsked (now s) v ⌝ }
+    ensures { λ r. ⌜ r ≡ any (size (countsOf v)) (gives (now (s .entry)) v) ⌝ }
 {
-    let rows = ny * nz;
+    let rows = v.ny * v.nz;
     let mut q = 0;
     while q < rows {
-        if row_unsteady(s, o, nx, ny, nz, q) {
+        if row_unsteady(s, v, q) {
             return true;
         }
         q += 1;
@@ -247,29 +227,15 @@ fn level_unsteady(s: &[u8], o: usize, nx: usize, ny: usize, nz: usize) -> bool
     false
 }
 
-// The same for the level j levels down.
-fn unsteady_at(s: &[u8], dx: usize, dy: usize, dz: usize, j: usize) -> bool
-    requires { ⌜ Dims dx dy dz × (j ≤ 3) × (off (pos dx dy dz) (suc (suc j)) ≤ length (now s)) ⌝ }
-    ensures { λ r. ⌜ r ≡ any (size (depth (pos dx dy dz) j)) (unsteady (pos dx dy dz) (now (s .entry)) j) ⌝ }
-{
-    let o = octree::begin(dx, dy, dz, j);
-    level_unsteady(
-        s,
-        o,
-        octree::along(dx, j),
-        octree::along(dy, j),
-        octree::along(dz, j),
-    )
-}
-
 // Whether a split table is an octree, and graded: that no octant is left that the balance would split.
-pub fn is_graded(s: &[u8], dx: usize, dy: usize, dz: usize, l: usize) -> bool
-    requires { ⌜ Dims dx dy dz × (1 ≤ l) × (l ≤ 5) × (length (now s) ≡ off (pos dx dy dz) l) ⌝ }
-    ensures { λ r. ⌜ r ≡ isGraded (pos dx dy dz) l (now (s .entry)) ⌝ }
+pub fn is_graded(s: &[u8], d: Roots) -> bool
+    requires { ⌜ Covers d (length (now s)) × (1 ≤ d .levels) ⌝ }
+    ensures { λ r. ⌜ r ≡ isGraded (rootsOf d) (d .levels) (now (s .entry)) ⌝ }
 {
+    let top = d.levels - 1;
     let mut j = 0;
-    while j < l - 1 {
-        if unsteady_at(s, dx, dy, dz, j) {
+    while j < top {
+        if level_unsteady(s, level_at(d, j)) {
             return false;
         }
         j += 1;

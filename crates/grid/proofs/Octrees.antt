@@ -9,7 +9,8 @@ use lib.Seq.{sets, sets-eq, length-take-le, take-at, drop-at, drop-drop, take-ap
 use borrow.Rule.Slice.PartMut.{putMid, postOf, same-len-mid, mid-len}
 use Rattle.sorting.specs.Numbers.{SortedTo, distinctSorted, rank, StrictTo}
 use Rattle.space.specs.Space.{Axis, Pos, pos}
-use Rattle.octants.specs.Table.{off, size, depth, read}
+use Rattle.space.specs.Levels.{off, size, depth}
+use Rattle.octants.specs.Table.{read}
 use Rattle.octree_cells.specs.Cells.{Cell, cells, flat}
 use Rattle.plan.specs.declared.Plan.{Plan}
 use Rattle.vertex_keys.specs.Keys.{keyOf, tripleOf}

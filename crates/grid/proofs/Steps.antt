@@ -13,7 +13,7 @@ use lib.Seq.{length-take-le}
 use Rattle.refusals.specs.Rows.{first, proper}
 use Rattle.refusals.proofs.Rows.{clear, unless-none, unless-some}
 use Rattle.space.specs.Space.{pos}
-use Rattle.octants.specs.Table.{off, size, depth}
+use Rattle.space.specs.Levels.{off, size, depth}
 use Rattle.octants.specs.Judge.{isGraded}
 use Rattle.octants.proofs.Judge.{graded-closes}
 use Rattle.sides.specs.Told.{Taken}

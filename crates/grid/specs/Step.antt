@@ -10,7 +10,7 @@ use lib.Ieee.{Float}
 use Rattle.refusals.specs.Rows.{Row, _when_, first, unless}
 use Rattle.lists.specs.Tables.{allAtMost, front, zeroed}
 use Rattle.octants.specs.Judge.{isGraded}
-use Rattle.octants.specs.Table.{off}
+use Rattle.space.specs.Levels.{off}
 use Rattle.plan.specs.Plan.{planOf, planRows, onPlan}
 use Rattle.plan.specs.declared.Bounds.{Bounds}
 use Rattle.plan.specs.declared.Plan.{Plan}

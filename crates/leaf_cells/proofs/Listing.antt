@@ -9,7 +9,8 @@ use Rattle.space.specs.Space.{Axis, ax, ay, az, Pos, Inside}
 use Rattle.octants.specs.Oct.{Tree, In}
 use Rattle.lists.proofs.Bools.{both-and}
 use Rattle.octants.proofs.Axis1.{child-in}
-use Rattle.octants.specs.Table.{size, place}
+use Rattle.space.specs.Levels.{size}
+use Rattle.octants.specs.Table.{place}
 use Rattle.octants.proofs.TableLaws.{place-in}
 use Rattle.octree_cells.specs.Cells.{down, boxDown, below, child, two, overLeaves}
 use Rattle.octree_cells.specs.Leaf.{opened}

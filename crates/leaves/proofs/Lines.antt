@@ -9,7 +9,8 @@ use native.Mathlib.Numerals.{sub-one}
 use lib.ListN.{length, length-append}
 use Rattle.space.specs.Space.{Axis, ax, ay, az, Pos, pos}
 use Rattle.octants.specs.Oct.{Tree}
-use Rattle.octants.specs.Table.{size, slot, place}
+use Rattle.space.specs.Levels.{size}
+use Rattle.octants.specs.Table.{slot, place}
 use Rattle.octants.proofs.TableLaws.{place-slot}
 use Rattle.octree_cells.specs.Cells.{down, boxDown, below, child, two, overLeaves}
 use Rattle.leaves.specs.Leaves.{kids}

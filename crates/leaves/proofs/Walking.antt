@@ -14,7 +14,8 @@ use Rattle.lists.proofs.Bools.{both-and, clash}
 use Rattle.octants.proofs.Near.{in-within}
 use Rattle.octants.proofs.Axis1.{child-in}
 use Rattle.lists.specs.Tests.{bit}
-use Rattle.octants.specs.Table.{read, place, size}
+use Rattle.space.specs.Levels.{size}
+use Rattle.octants.specs.Table.{read, place}
 use Rattle.octants.proofs.TableLaws.{place-in}
 use Rattle.octree_cells.specs.Cells.{Cell, Face, Side, split, equal, coarser, border, middle, down, below, child, two, leafCells, cells, faceCells, side, face, finer}
 use Rattle.octree_cells.proofs.Counting.{cells-length, countAt, edgesOf}

@@ -4,7 +4,7 @@ use mathlib.Core.Bool.{cond}
 use Prim.Native.Nat.{ℕ, zero, suc, _+_, _-_, _/_, _^_, _≤_}
 use Rattle.space.specs.Space.{Pos, pos}
 use Rattle.octants.specs.Oct.{Tree, counts, within}
-use Rattle.octants.specs.Table.{off}
+use Rattle.space.specs.Levels.{off}
 use Rattle.octants.specs.Levels.{Dims}
 use Rattle.octree_cells.specs.Cells.{Cover, none, leaf}
 use Rattle.lookup.specs.declared.Covered.{Covered}

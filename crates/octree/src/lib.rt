@@ -1,11 +1,12 @@
-// Octants of the dense split table: their places, whether they are split, the leaf that covers one.
+// The split table of an octree: where its levels and octants stand, and whether an octant is split.
 ghost use mathlib.Core.Path.{_≡_};
-ghost use Prim.Native.Nat.{ℕ, _+_, _*_, _^_, _≤_, _<_};
+ghost use Prim.Native.Nat.{_+_, _*_, _^_, _≤_, _<_};
 ghost use lib.ListN.{length};
 ghost use Rattle.space.specs.Space.{pos};
 ghost use Rattle.octants.specs.Oct.{counts, hit};
-ghost use Rattle.octants.specs.Table.{depth, size, off, at, read};
-ghost use Rattle.octants.specs.Levels.{Dims};
+ghost use Rattle.space.specs.Levels.{mostLevels, mostRoots, mostAlong, Counts, size};
+ghost use Rattle.octants.specs.Table.{at};
+ghost use Rattle.octree.specs.Parts.{rootsOf, placeOf, countsOf, treeOf, Covers, levelAt, belowOf};
 
 // The roots along the axes, and how many levels stand below them.
 pub struct Roots {
@@ -21,6 +22,14 @@ pub struct Octant {
     pub x: usize,
     pub y: usize,
     pub z: usize,
+}
+
+// A level of the table: where it begins, and how many octants stand along each axis.
+pub struct Level {
+    pub start: usize,
+    pub nx: usize,
+    pub ny: usize,
+    pub nz: usize,
 }
 
 // The place of octant (x, y, z) in a level with nx by ny octants to a layer.
@@ -60,53 +69,47 @@ pub fn hits(
 
 // How many octants stand along an axis of n roots, k levels down.
 pub fn along(n: usize, k: usize) -> usize
-    requires { ⌜ (n ≤ 64) × (k ≤ 5) ⌝ }
+    requires { ⌜ (n ≤ mostRoots) × (k ≤ mostLevels) ⌝ }
     ensures { λ r. ⌜ r ≡ n * 2 ^ k ⌝ }
 {
     n << k
 }
 
-// How many octants the level k levels down has.
-pub fn level_size(dx: usize, dy: usize, dz: usize, k: usize) -> usize
-    requires { ⌜ Dims dx dy dz × (k ≤ 5) ⌝ }
-    ensures { λ r. ⌜ (r ≡ size (depth (pos dx dy dz) k)) × (r ≤ 8589934592) ⌝ }
+// The level k levels down from the roots: it begins after the 1 + 8 + 64 + … octants to a root of those above it.
+pub fn level_at(d: Roots, k: usize) -> Level
+    requires { ⌜ Counts mostRoots (rootsOf d) × (k ≤ mostLevels) ⌝ }
+    ensures { λ r. ⌜ r ≡ levelAt (rootsOf d) k ⌝ }
 {
-    along(dx, k) * along(dy, k) * along(dz, k)
-}
-
-// Where the level k levels down begins.
-pub fn begin(dx: usize, dy: usize, dz: usize, k: usize) -> usize
-    requires { ⌜ Dims dx dy dz × (k ≤ 5) ⌝ }
-    ensures { λ r. ⌜ r ≡ off (pos dx dy dz) k ⌝ }
-{
-    let mut o = 0;
-    let mut j = 0;
-    while j < k {
-        o += level_size(dx, dy, dz, j);
-        j += 1;
+    let w = along(1, k);
+    Level {
+        start: d.nx * d.ny * d.nz * ((w * w * w - 1) / 7),
+        nx: d.nx * w,
+        ny: d.ny * w,
+        nz: d.nz * w,
     }
-    o
 }
 
-// Whether octant (x, y, z) of level m is there and split, in a table over dx, dy and dz roots of level l.
-pub fn is_split(
-    s: &[u8],
-    dx: usize,
-    dy: usize,
-    dz: usize,
-    l: usize,
-    m: usize,
-    x: usize,
-    y: usize,
-    z: usize,
-) -> bool
-    requires { ⌜ Dims dx dy dz × (l ≤ 5) × (m ≤ l) × (length (now s) ≡ off (pos dx dy dz) l) ⌝ }
-    ensures { λ r. ⌜ r ≡ hit (counts l (pos dx dy dz) m) (read (pos dx dy dz) l (now (s .entry)) m) (pos x y z) ⌝ }
+// The level below a level, which follows it in the table.
+pub fn below(v: Level) -> Level
+    requires { ⌜ Counts mostAlong (countsOf v) × (v .start + size (countsOf v) < 2 ^ 64) ⌝ }
+    ensures { λ r. ⌜ r ≡ belowOf v ⌝ }
 {
-    if m == 0 {
+    Level {
+        start: v.start + v.nx * v.ny * v.nz,
+        nx: 2 * v.nx,
+        ny: 2 * v.ny,
+        nz: 2 * v.nz,
+    }
+}
+
+// Whether an octant is there and split.
+pub fn is_split(s: &[u8], d: Roots, o: Octant) -> bool
+    requires { ⌜ Covers d (length (now s)) × (o .level ≤ d .levels) ⌝ }
+    ensures { λ r. ⌜ r ≡ hit (counts (d .levels) (rootsOf d) (o .level)) (treeOf d (now (s .entry)) (o .level)) (placeOf o) ⌝ }
+{
+    if o.level == 0 {
         return false;
     }
-    let j = l - m;
-    let o = begin(dx, dy, dz, j);
-    hits(s, o, along(dx, j), along(dy, j), along(dz, j), x, y, z)
+    let v = level_at(d, d.levels - o.level);
+    hits(s, v.start, v.nx, v.ny, v.nz, o.x, o.y, o.z)
 }

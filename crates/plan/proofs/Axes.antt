@@ -12,11 +12,14 @@ use lib.Ieee.Scale.{finite}
 use Rattle.float32.proofs.Floats.{apart}
 use Rattle.float32.specs.Ceiling.{ceilTo}
 use Rattle.float32.specs.Operations.{_+f_, _/f_}
-use Rattle.plan.specs.Plan.{Small, latticeScale, octreeScale, scaleOf, originOf, extentOf, dimsOf, farOf, fitsOn, allFinite, axisOf}
+use Rattle.space.specs.Space.{pos}
+use Rattle.space.specs.Levels.{mostLevels}
+use Rattle.space.proofs.Space.{on-all}
+use Rattle.plan.specs.Plan.{mostLattice, Few, Small, latticeScale, octreeScale, scaleOf, originOf, extentOf, dimsOf, farOf, fitsOn, allFinite, axisOf}
 use Rattle.plan.specs.declared.Scale.{Scale}
 use Rattle.plan.specs.declared.Axis.the-variants.{Covers, TooLong}
 
-pub scale-small : (c : Float) (levels : ℕ) → levels ≤ 5 → Small (scaleOf c levels)
+pub scale-small : (c : Float) (levels : ℕ) → levels ≤ mostLevels → Small (scaleOf c levels)
 unfolding scaleOf
 scale-small c levels h = go (eqb levels 0)
   where
@@ -47,5 +50,8 @@ axis-fits s c lo hi o n e = go (fitsOn s c lo hi) refl e
         let no : _≡_ {A = ℕ} 0 1 = cc in
         absurd (omega arith)
 
-pub covered : (s : Scale) (c lo hi o : Float) (n : ℕ) → Small s → axisOf s c lo hi ≡ Covers o n → n ≤ 128
+pub few-three : {nx ny nz levels : ℕ} → nx ≤ mostLattice → ny ≤ mostLattice → nz ≤ mostLattice → levels ≤ mostLevels → Few nx ny nz levels
+few-three {nx} {ny} {nz} x y z l = record { dims-few = on-all (λ a. pos nx ny nz a ≤ mostLattice) x y z; levels-few = l }
+
+pub covered : (s : Scale) (c lo hi o : Float) (n : ℕ) → Small s → axisOf s c lo hi ≡ Covers o n → n ≤ mostLattice
 covered s c lo hi o n h e = le-trans (axis-fits s c lo hi o n e .1) (h .most-small)

@@ -7,7 +7,9 @@ use borrow.Author.Tests.{leb-true, eqb-true}
 use lib.Dec.{leb, eqb}
 use lib.Ieee.{Float}
 use lib.Ieee.Positive.{positive}
-use Rattle.plan.specs.Plan.{mostLevels, mostLattice, mostRoots, mostOctants, latticeScale, octreeScale, scaleOf, axisOf, octantsOf, straightBox, onAxis, counted, axesOf, planOf}
+use Rattle.space.specs.Space.{pos}
+use Rattle.space.specs.Levels.{mostLevels, mostRoots, mostOctants, off}
+use Rattle.plan.specs.Plan.{mostLattice, latticeScale, octreeScale, scaleOf, axisOf, straightBox, onAxis, counted, axesOf, planOf}
 use Rattle.plan.specs.declared.Bounds.{Bounds}
 use Rattle.plan.specs.declared.Plan.{Plan}
 use Rattle.plan.specs.declared.Axis.{Axis}
@@ -28,7 +30,7 @@ pub record ReadyPlan (levels : ℕ) (p : Plan) : Type 0 where
   pub x : Along levels (p .nx)
   pub y : Along levels (p .ny)
   pub z : Along levels (p .nz)
-  pub octants-are : p .octants ≡ octantsOf levels (p .nx) (p .ny) (p .nz)
+  pub octants-are : p .octants ≡ off (pos (p .nx) (p .ny) (p .nz)) levels
   pub octants-few : p .octants ≤ mostOctants
 
 scale-fits : (c : Float) (levels n : ℕ) → scaleOf c levels .least ≤ n → n ≤ scaleOf c levels .most → Along levels n

@@ -1,8 +1,8 @@
 -- Refusals 1 to 4 are given exactly when document 01 says, the lowest first, and a plan has one outcome. Assumes nothing.
-use mathlib.Core.Path.{_≡_, refl, sym}
+use mathlib.Core.Path.{_≡_, refl}
 use mathlib.Core.Bool.{Bool, true, false, not, _&&_, cond}
 use mathlib.Core.Logic.{_↔_}
-use Prim.Native.Nat.{ℕ, _<_, _≤_}
+use Prim.Native.Nat.{ℕ, _<_}
 use borrow.Author.Tests.{leb-true, leb-false, lt-ltb, le-ltb}
 use lib.Dec.{leb, ltb}
 use lib.Ieee.{Float}
@@ -11,7 +11,8 @@ use Rattle.refusals.specs.Rows.{first, caused, lower, rising}
 use Rattle.lists.specs.Tables.{Determined}
 use Rattle.refusals.proofs.Rows.{exactly}
 use Rattle.lists.proofs.Lent.{determined}
-use Rattle.plan.specs.Plan.{mostLevels, mostOctants, scaleOf, originOf, dimsOf, fitsOn, fitsAll, axisOf, octantsOf, straightBox, onAxis, counted, axesOf, planOf, planRows, numberOf}
+use Rattle.space.specs.Levels.{mostLevels, mostOctants}
+use Rattle.plan.specs.Plan.{scaleOf, fitsOn, fitsAll, axisOf, straightBox, onAxis, counted, axesOf, planOf, planRows, numberOf}
 use Rattle.plan.specs.declared.Bounds.{Bounds}
 use Rattle.plan.specs.declared.Scale.{Scale}
 use Rattle.plan.specs.declared.Plan.{Plan}

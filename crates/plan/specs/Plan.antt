@@ -1,7 +1,7 @@
 -- The plan: from a box, a cell size c and a number of levels to an origin, a unit and dimensions, or to a refusal. Every operation on
 -- floats is one of binary32, in the order written.
-use Prim.Native.Nat.{ℕ, zero, suc, _+_, _*_, _^_, _≤_, max}
-use mathlib.Core.Bool.{Bool, true, false, not, _&&_, cond}
+use Prim.Native.Nat.{ℕ, _+_, _*_, _^_, _≤_, max}
+use mathlib.Core.Bool.{Bool, not, _&&_, cond}
 use mathlib.Core.List.{List, [], _∷_}
 use lib.Dec.{leb, ltb, eqb}
 use lib.Ieee.{Float, binary32, toBits, neg, lt}
@@ -9,6 +9,9 @@ use lib.Ieee.Scale.{finite}
 use lib.Ieee.Positive.{positive}
 use Rattle.float32.specs.Operations.{_+f_, _-f_, _*f_, _/f_, whole32, half32, two32}
 use Rattle.float32.specs.Ceiling.{ceilTo}
+use Rattle.space.specs.Space as space
+use Rattle.space.specs.Space.{pos}
+use Rattle.space.specs.Levels.{mostLevels, mostRoots, mostOctants, off}
 use Rattle.refusals.specs.Rows.{Row, _when_}
 use Rattle.plan.specs.declared.Bounds.{Bounds}
 use Rattle.plan.specs.declared.Scale.{Scale}
@@ -18,19 +21,10 @@ use Rattle.plan.specs.declared.Plan.{Plan}
 use Rattle.plan.specs.declared.Planned.{Planned}
 use Rattle.plan.specs.declared.Planned.the-variants.{Ready, Refused}
 
--- ---- the bounds of a call
-
-abbrev pub mostLevels : ℕ
-mostLevels = 5
+-- ---- the bounds of a call: those of an octree stand with its levels
 
 abbrev pub mostLattice : ℕ
 mostLattice = 128
-
-abbrev pub mostRoots : ℕ
-mostRoots = 64
-
-abbrev pub mostOctants : ℕ
-mostOctants = 1048576
 
 unfoldable pub allFinite : Float → Float → Float → Float → Bool
 allFinite a b c d = finite a && (finite b && (finite c && finite d))
@@ -91,18 +85,9 @@ axisOf s c lo hi = cond (fitsOn s c lo hi) (Covers (originOf s c lo) (dimsOf s c
 unfoldable pub placeOf : Float → Float → ℕ → ℕ
 placeOf origin half v = toBits binary32 (origin +f whole32 v *f half)
 
--- ---- the octants
-
--- those of the L levels from level L down to level 1: level L - k has dims · 2 ^ k along each axis
-unfoldable pub octantsOf : ℕ → ℕ → ℕ → ℕ → ℕ
-octantsOf zero nx ny nz = 0
-octantsOf (suc k) nx ny nz = octantsOf k nx ny nz + nx * 2 ^ k * (ny * 2 ^ k) * (nz * 2 ^ k)
-
 -- what the dimensions and the levels of a grid never exceed
 pub record Few (nx ny nz levels : ℕ) : Type 0 where
-  pub x-few : nx ≤ mostLattice
-  pub y-few : ny ≤ mostLattice
-  pub z-few : nz ≤ mostLattice
+  pub dims-few : (a : space.Axis) → pos nx ny nz a ≤ mostLattice
   pub levels-few : levels ≤ mostLevels
 
 -- ---- the refusals, the lowest first
@@ -137,7 +122,7 @@ axesOf s b c levels =
       ny = ny;
       nz = nz;
       levels = levels;
-      octants = octantsOf levels nx ny nz;
+      octants = off (pos nx ny nz) levels;
     })
 
 unfoldable pub planOf : Bounds → Float → ℕ → Planned
@@ -164,7 +149,7 @@ fitsAll s b c levels =
     fitsOn s c (b .x0) (b .x1)
     && (fitsOn s c (b .y0) (b .y1)
     && (fitsOn s c (b .z0) (b .z1)
-    && leb (octantsOf levels (dimsOf s c (b .x0) (b .x1)) (dimsOf s c (b .y0) (b .y1)) (dimsOf s c (b .z0) (b .z1))) mostOctants))
+    && leb (off (pos (dimsOf s c (b .x0) (b .x1)) (dimsOf s c (b .y0) (b .y1)) (dimsOf s c (b .z0) (b .z1))) levels) mostOctants))
 
 -- refusals 1 to 4, in their order, each with its cause
 unfoldable pub planRows : Bounds → Float → ℕ → List Row

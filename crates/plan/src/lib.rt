@@ -1,7 +1,9 @@
 // The plan of a grid: from a box, a cell size and a number of levels to an origin, a unit and dimensions.
 ghost use mathlib.Core.Path.{_≡_};
 ghost use Prim.Native.Nat.{_≤_, _^_, max};
-ghost use Rattle.plan.specs.Plan.{allFinite, scaleOf, axisOf, axesOf, octantsOf, Small, Few, straight, straightBox, planOf, numberOf, placeOf};
+ghost use Rattle.space.specs.Space.{pos};
+ghost use Rattle.space.specs.Levels.{off};
+ghost use Rattle.plan.specs.Plan.{allFinite, scaleOf, axisOf, axesOf, Small, Few, straight, straightBox, planOf, numberOf, placeOf};
 
 // A box: its lower and its upper bounds along x, y and z.
 #[repr(C)]
@@ -164,21 +166,13 @@ fn along(s: Scale, c: f32, lo: f32, hi: f32) -> Axis
     Axis::Covers(origin, n)
 }
 
-// The octants of the levels from the roots' down to level 1.
+// The octants of the levels from the roots' down to level 1: 1 + 8 + 64 + … to a root.
 fn count(nx: u32, ny: u32, nz: u32, levels: u32) -> u64
     requires { ⌜ Few nx ny nz levels ⌝ }
-    ensures { λ r. ⌜ r ≡ octantsOf levels nx ny nz ⌝ }
+    ensures { λ r. ⌜ r ≡ off (pos nx ny nz) levels ⌝ }
 {
-    let mut total: u64 = 0;
-    let mut w: u64 = 1;
-    for _ in 0..levels {
-        let x = nx as u64 * w;
-        let y = ny as u64 * w;
-        let z = nz as u64 * w;
-        total = total + x * y * z;
-        w = w * 2;
-    }
-    total
+    let w = width_of(levels) as u64;
+    nx as u64 * ny as u64 * nz as u64 * ((w * w * w - 1) / 7)
 }
 
 // The three axes, and the octants.

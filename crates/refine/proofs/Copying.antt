@@ -7,8 +7,8 @@ use native.Mathlib.Numerals.{add-one}
 use lib.ListN.{length, getD, set, drop, drop-of-length-le}
 use lib.Seq.{drop-cons, ext-getD}
 use Rattle.octants.specs.Table.{total}
-use Rattle.balance.specs.Sweep.{Swept}
-use Rattle.balance.proofs.Sweeping.{swept-more}
+use Rattle.octree.specs.Sweep.{Swept}
+use Rattle.octree.proofs.Sweeping.{swept-more}
 
 -- one byte more, in front of a table
 pub copied-more : {e s : List ℕ} {i : ℕ} {f : ℕ → ℕ} (v : ℕ) → Swept e s 0 i f → i < length s → v ≡ f i → Swept e (set s i v) 0 (i + 1) f

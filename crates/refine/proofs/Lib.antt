@@ -1,6 +1,5 @@
--- Laws of the reading of the crossing answers, and of the step.
+-- Laws of the parts, the ways out of the step, and what it means.
 pub mod Copying
-pub mod Clearing
 pub mod Tables
-pub mod Steps
-pub mod Meaning
+pub mod WaysOut
+pub mod Theorems

@@ -1,32 +1,31 @@
 -- The split table that the passes make is the refinement of the crossing table. Assumes nothing.
-use mathlib.Core.Path.{_≡_, refl, ap, _∙_}
+use mathlib.Core.Path.{_≡_, ap, _∙_}
 use mathlib.Core.List.{List, []}
-use Prim.Native.Nat.{ℕ, zero, suc}
+use Prim.Native.Nat.{ℕ}
 use native.Mathlib.Omega.{arith}
 use lib.ListN.{length}
 use lib.Seq.{ext-getD}
-use Rattle.space.specs.Space.{Pos, pos}
-use Rattle.octants.specs.Oct.{balanced, raw}
-use Rattle.octants.specs.Table.{off, read, levels, refineOf, total}
-use Rattle.balance.specs.Sweep.{Shows}
-use Rattle.balance.proofs.Passing.{shows-table}
-use Rattle.refine.specs.Clear.{Refinable, TableDone}
+use Rattle.space.specs.Levels.{off}
+use Rattle.octants.specs.Table.{levels, rawOf, balanceOf, refineOf, total}
+use Rattle.octants.proofs.DemandTable.{raw-balanced}
+use Rattle.octree.specs.Parts.{rootsOf, Covers}
+use Rattle.octree.specs.declared.Roots.{Roots}
+use Rattle.refine.specs.Parts.{TableAsked, TableDone}
 
 -- no levels: no octants
-pub none-done : {dx dy dz l : ℕ} {C o : List ℕ} → Refinable dx dy dz l C o → l ≡ 0 → TableDone dx dy dz l C 0 o
+pub none-done : {d : Roots} {C o : List ℕ} → TableAsked d C o → d .levels ≡ 0 → TableDone d C 0 o
 unfolding levels off total
-none-done {dx} {dy} {dz} {l} {C} {o} h e = go l e h
-  where
-    empty : (o : List ℕ) → length o ≡ 0 → o ≡ []
-    empty o q = ext-getD 0 o [] q (λ i p. absurd (omega arith))
+none-done {d} {C} {o} h e =
+    let z : length o ≡ off (rootsOf d) 0 = h .same ∙ h .octants ∙ ap (off (rootsOf d)) e in
+    let n : o ≡ [] = ext-getD 0 o [] z (λ i p. absurd (omega arith)) in
+    record { split = n ∙ rw e; ones = rw e }
 
-    go : (l : ℕ) → l ≡ 0 → Refinable dx dy dz l C o → TableDone dx dy dz l C 0 o
-    go zero e h = record { split = empty o (h .same ∙ h .octants); ones = refl }
-    go (suc l) e h = absurd (omega arith)
+pub covers-again : {d : Roots} {m n : ℕ} → Covers d m → n ≡ m → Covers d n
+covers-again c e = record { roots = c .roots; levels = c .levels; octants = e ∙ c .octants }
 
-pub table-done : {dx dy dz l r : ℕ} {C s t : List ℕ} → s ≡ C → length t ≡ off (pos dx dy dz) l
-    → Shows (pos dx dy dz) l t (balanced l (pos dx dy dz) (raw l (read (pos dx dy dz) l s))) 0 l → r ≡ total t → TableDone dx dy dz l C r t
-table-done {dx} {dy} {dz} {l} {r} {C} {s} {t} e f h g =
-    let d : Pos = pos dx dy dz in
-    let p : t ≡ refineOf d l C = shows-table d l t (balanced l d (raw l (read d l s))) f h ∙ ap (refineOf d l) e in
-    record { split = p; ones = g ∙ ap total p }
+-- copied, cleared, balanced and counted
+pub table-done : {d : Roots} {C s t u : List ℕ} {r : ℕ} → s ≡ C → t ≡ rawOf (rootsOf d) (d .levels) s → u ≡ balanceOf (rootsOf d) (d .levels) t → r ≡ total u → TableDone d C r u
+table-done {d} {C} {s} {t} {u} {r} e f g n =
+    let p : u ≡ refineOf (rootsOf d) (d .levels) C =
+    g ∙ ap (balanceOf (rootsOf d) (d .levels)) (f ∙ ap (rawOf (rootsOf d) (d .levels)) e) ∙ raw-balanced (rootsOf d) (d .levels) C in
+    record { split = p; ones = n ∙ ap total p }

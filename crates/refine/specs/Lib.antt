@@ -1,3 +1,3 @@
 -- Refine: document 01, "Octree".
-pub mod Clear
 pub mod Step
+pub mod Parts

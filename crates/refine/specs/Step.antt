@@ -1,36 +1,30 @@
 -- The step refine as document 01 has it: what is refused and why, what is answered, and what the split table holds after.
 -- C is the crossing table and o the split table, as lent.
 use mathlib.Core.Path.{_≡_}
-use mathlib.Core.Bool.{cond, not}
+use mathlib.Core.Bool.{cond}
 use mathlib.Core.List.{List, [], _∷_, _++_}
 use Prim.Native.Nat.{ℕ}
-use lib.Dec.{eqb, ltb}
+use lib.Dec.{ltb}
 use lib.Ieee.{Float}
 use lib.ListN.{length}
 use Rattle.refusals.specs.Rows.{Row, _when_, first, unless}
-use Rattle.lists.specs.Tables.{allAtMost, front, on}
+use Rattle.lists.specs.Tables.{front, on}
 use Rattle.plan.specs.Plan.{planOf, planRows, onPlan}
 use Rattle.plan.specs.declared.Bounds.{Bounds}
 use Rattle.plan.specs.declared.Plan.{Plan}
 use Rattle.space.specs.Space.{Pos, pos}
 use Rattle.octants.specs.Table.{refineOf, total}
+use Rattle.octree.specs.Rows.{answerRows}
 use Rattle.refine.specs.declared.Refined.{Refined}
 use Rattle.refine.specs.declared.Refined.the-variants.{Done, Refused, Short}
 
+-- 9: the split table has no room for n octants
+abbrev pub roomRows : ℕ → List ℕ → List Row
+roomRows n o = 9 when ltb (length o) n ∷ []
+
 -- the refusals with their causes, the lowest number first: those of the plan, and where there is a plan, those of the two tables
-abbrev pub tableRows : Plan → List ℕ → List ℕ → List Row
-tableRows p C o =
-    5 when not (eqb (length C) (p .octants))
-    ∷ 6 when not (allAtMost 1 C)
-    ∷ 9 when ltb (length o) (p .octants)
-    ∷ []
-
 abbrev pub refineRows : Bounds → Float → ℕ → List ℕ → List ℕ → List Row
-refineRows b c levels C o = planRows b c levels ++ onPlan (planOf b c levels) (λ n. []) (λ p. tableRows p C o)
-
--- those of the crossing table alone, for n octants
-unfoldable pub crossingRows : ℕ → List ℕ → List Row
-crossingRows n C = 5 when not (eqb (length C) n) ∷ 6 when not (allAtMost 1 C) ∷ []
+refineRows b c levels C o = planRows b c levels ++ onPlan (planOf b c levels) (λ n. []) (λ p. answerRows (p .octants) C ++ roomRows (p .octants) o)
 
 -- document 01's number and values of each answer
 abbrev pub numberOf : Refined → ℕ
@@ -53,7 +47,7 @@ splitOf p C = refineOf (rootsOf p) (p .levels) C
 -- refused, short of room, or so many ones
 unfoldable pub answerFor : Plan → List ℕ → List ℕ → Refined
 answerFor p C o =
-    unless (first (crossingRows (p .octants) C)) Refused
+    unless (first (answerRows (p .octants) C)) Refused
     (cond (ltb (length o) (p .octants)) (Short (p .octants)) (Done (total (splitOf p C))))
 
 unfoldable pub refinedOf : Bounds → Float → ℕ → List ℕ → List ℕ → Refined

@@ -12,7 +12,8 @@ use lib.Pow.{pow-pos, pow-mono}
 use Rattle.space.specs.Space.{ax, ay, az, Pos, pos}
 use Rattle.octants.specs.Oct.{In}
 use Rattle.lists.specs.Tests.{bit}
-use Rattle.octants.specs.Table.{off, size, depth, read}
+use Rattle.space.specs.Levels.{off, size, depth}
+use Rattle.octants.specs.Table.{read}
 use Rattle.octants.specs.Levels.{Dims}
 use Rattle.octree_cells.specs.Cells.{leafCells}
 use Rattle.octree_cells.specs.Leaf.{IsLeaf}

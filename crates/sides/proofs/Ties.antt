@@ -15,7 +15,8 @@ use Rattle.space.proofs.Space.{pos-eta}
 use Rattle.octants.proofs.Near.{in-within}
 use Rattle.octants.proofs.Least.{parent-inside}
 use Rattle.octants.specs.Table.{read}
-use Rattle.octants.proofs.TableLaws.{off-le, off-suc}
+use Rattle.space.proofs.Levels.{off-suc}
+use Rattle.octants.proofs.TableLaws.{off-le}
 use Rattle.octree_cells.specs.Cells.{corner, middle, end, side, Side, split, equal, coarser, border, reaches, stepped, beside, face, Face, finer, cellsTo, faceCells, leafCells}
 use Rattle.octree_cells.specs.Leaf.{IsLeaf}
 use Rattle.octree_cells.proofs.LeafSome.{whole-of}

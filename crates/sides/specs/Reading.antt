@@ -6,7 +6,8 @@ use lib.ListN.{length}
 use Rattle.space.specs.Space.{Axis, ax, ay, az, Pos, pos, next, frame}
 use Rattle.octants.specs.Oct.{hit, counts}
 use Rattle.lists.specs.Tests.{bit}
-use Rattle.octants.specs.Table.{size, off, at}
+use Rattle.space.specs.Levels.{size, off}
+use Rattle.octants.specs.Table.{at}
 use Rattle.octree_cells.specs.Cells.{reaches, stepped}
 use Rattle.octree_cells.specs.Leaf.{turnAt}
 use Rattle.sides.specs.declared.Level.{Level}

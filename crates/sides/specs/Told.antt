@@ -6,7 +6,8 @@ use Prim.Native.Nat.{ℕ, _≤_}
 use lib.ListN.{length}
 use Rattle.space.specs.Space.{Axis, ax, ay, az, Pos, pos}
 use Rattle.octants.specs.Oct.{Tree, Closed}
-use Rattle.octants.specs.Table.{off, read}
+use Rattle.space.specs.Levels.{off}
+use Rattle.octants.specs.Table.{read}
 use Rattle.octants.specs.Levels.{Dims}
 use Rattle.octree_cells.specs.Cells.{Face, face, faceCentre, middle, turnsTo, finer, Side, split, equal, coarser, border, side}
 use Rattle.sides.specs.declared.Beside.{Beside}

@@ -1,2 +1,3 @@
--- Laws of places and frames.
+-- Laws of places and frames, and of levels.
 pub mod Space
+pub mod Levels

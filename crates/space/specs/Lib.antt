@@ -1,2 +1,3 @@
--- Places in space, which plan, octree and grid share.
+-- Axes and places, and the levels of an octree as counts.
 pub mod Space
+pub mod Levels

@@ -11,7 +11,8 @@ use Rattle.space.specs.Space.{Axis, ax, ay, az, Pos, pos}
 use Rattle.lists.specs.Tests.{any}
 use Rattle.octants.specs.Oct.{Tree, Closed}
 use Rattle.lists.proofs.Bools.{clash}
-use Rattle.octants.specs.Table.{off, slot, depth, read}
+use Rattle.space.specs.Levels.{off, depth}
+use Rattle.octants.specs.Table.{slot, read}
 use Rattle.octree_cells.specs.Cells.{cells, leafCells, boxDown, down, below, descent, side, finer, over, fan, halves, cellsTo, flat}
 use Rattle.lists.proofs.Lent.{zeros-at}
 use Rattle.vertex_keys.specs.Keys.{keyOf, tripleOf}

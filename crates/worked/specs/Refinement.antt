@@ -13,7 +13,8 @@ use Rattle.space.specs.Space.{Pos, pos}
 use Rattle.lists.specs.Tests.{any}
 use Rattle.octants.specs.Oct.{Tree, balanced, near, rawFrom, refined}
 use Rattle.lists.proofs.Bools.{and-both}
-use Rattle.octants.specs.Table.{off, slot, depth, read, total, refineOf, tab, levels, table}
+use Rattle.space.specs.Levels.{off, depth}
+use Rattle.octants.specs.Table.{slot, read, total, refineOf, tab, levels, table}
 
 unfoldable areBits : List ℕ → Bool
 areBits [] = true

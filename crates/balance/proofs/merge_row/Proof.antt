@@ -2,7 +2,8 @@
 use native.Mathlib.Omega.{arith}
 use borrow.Author.Needs.{needs}
 use Prim.Native.Nat.{_+_, _-_, _≤_}
-use Rattle.balance.specs.Shell.{one, Merged}
+use Rattle.octree.specs.Sweep.{one}
+use Rattle.balance.specs.Parts.{Merged}
 use Rattle.balance.proofs.Merging.{merged-none, merged-more, merged-end}
 use Rattle.balance.proofs.merge_row.Statement.{statement}
 use Rattle.balance.proofs.merge_row.Tie as tie

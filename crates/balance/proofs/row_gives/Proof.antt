@@ -6,12 +6,13 @@ use native.Mathlib.Omega.{arith}
 use borrow.Author.Needs.{needs}
 use Rattle.lists.specs.Tests.{any}
 use Rattle.lists.proofs.Any.{any-more, any-found, any-none}
-use Rattle.balance.specs.Shell.{one, touched}
+use Rattle.octree.specs.Sweep.{one}
+use Rattle.balance.specs.Parts.{touchedOf}
 use Rattle.balance.proofs.row_gives.Statement.{statement}
 use Rattle.balance.proofs.row_gives.Tie as tie
 
 abbrev Inv-loop : tie.InvT-loop
-Inv-loop s i n seen x₀ x = (x ≤ n) × (any x (λ k. not (one s (i + k)) && touched seen k) ≡ false)
+Inv-loop s i n seen x₀ x = (x ≤ n) × (any x (λ k. not (one s (i + k)) && touchedOf seen k) ≡ false)
 
 abbrev μ-loop : tie.MeasureT-loop
 μ-loop s i n seen x₀ x = n - x
@@ -35,7 +36,7 @@ is-unsteady-requires c κs = search needs
 -- the test of a turn is the test at x
 test : (c : tie.After-is-unsteady Inv-loop μ-loop) →
     let a = c .before .before .before .before .before .before .before .args in
-    not (one (a .s .now) (a .i + c .before .before .before .before .loop .x)) && touched (a .seen .now) (c .before .before .before .before .loop .x) ≡ c .is-unsteady .result
+    not (one (a .s .now) (a .i + c .before .before .before .before .loop .x)) && touchedOf (a .seen .now) (c .before .before .before .before .loop .x) ≡ c .is-unsteady .result
 test c =
     let a = c .before .before .before .before .before .before .before .args in
     ap (λ (t : Bool). not (one (a .s .now) (a .i + c .before .before .before .before .loop .x)) && t) (sym (c .before .touched .ensures)) ∙ sym (c .is-unsteady .ensures)
@@ -43,7 +44,7 @@ test c =
 returns : tie.Need-returns Inv-loop μ-loop
 returns c =
     let a = c .before .before .before .before .before .before .before .before .args in
-    any-found (λ k. not (one (a .s .now) (a .i + k)) && touched (a .seen .now) k) (a .n) (c .before .before .before .before .before .loop .x) (c .before .before .before .before .loop-test .taken) (test (c .before) ∙ c .if1 .taken)
+    any-found (λ k. not (one (a .s .now) (a .i + k)) && touchedOf (a .seen .now) k) (a .n) (c .before .before .before .before .before .loop .x) (c .before .before .before .before .loop-test .taken) (test (c .before) ∙ c .if1 .taken)
 
 add-x : tie.Need-add-x Inv-loop μ-loop
 add-x c = omega (arith, c .before .before .before .before .before .before .before .before .pre)

@@ -4,14 +4,15 @@ use native.Mathlib.Omega.{arith}
 use Prim.Native.Nat.{_+_, _-_, _≤_}
 use borrow.Author.Needs.{needs}
 use Rattle.lists.specs.Tests.{bit}
-use Rattle.balance.specs.Shell.{one, touched}
-use Rattle.balance.specs.Sweep.{Swept}
-use Rattle.balance.proofs.Sweeping.{swept-none, swept-more, swept-end, split-at}
+use Rattle.octree.specs.Sweep.{one, Swept}
+use Rattle.balance.specs.Parts.{touchedOf}
+use Rattle.octree.proofs.Sweeping.{swept-none, swept-more, swept-end}
+use Rattle.balance.proofs.Rowing.{split-at}
 use Rattle.balance.proofs.split_row.Statement.{statement}
 use Rattle.balance.proofs.split_row.Tie as tie
 
 abbrev Inv-loop : tie.InvT-loop
-Inv-loop s₀ i n seen x₀ s x = (x ≤ n) × Swept s₀ s i x (λ k. bit (one s₀ (i + k) || touched seen k))
+Inv-loop s₀ i n seen x₀ s x = (x ≤ n) × Swept s₀ s i x (λ k. bit (one s₀ (i + k) || touchedOf seen k))
 
 abbrev μ-loop : tie.MeasureT-loop
 μ-loop s₀ i n seen x₀ s x = n - x

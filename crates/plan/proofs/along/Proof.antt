@@ -9,7 +9,6 @@ use lib.Ieee.{neg, inFloat}
 use lib.Ieee.Scale.{finite}
 use Rattle.float32.specs.Operations.{_+f_, _*f_, whole32}
 use Rattle.plan.specs.Plan.{allFinite, originOf, extentOf, dimsOf, fitsOn, axisOf}
-use Rattle.plan.specs.declared.Scale.{Scale}
 use Rattle.lists.proofs.Tests.{failed, passed, above, within}
 use Rattle.plan.proofs.along.Statement.{statement}
 use Rattle.plan.proofs.along.Tie as tie

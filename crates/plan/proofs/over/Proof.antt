@@ -1,8 +1,7 @@
 use borrow.Author.Needs.{needs}
-use borrow.Author.Tests.{eq-eqb}
-use Rattle.plan.specs.Plan.{Few, axesOf, counted}
+use Rattle.plan.specs.Plan.{axesOf, counted}
 use Rattle.lists.proofs.Tests.{above, within, told}
-use Rattle.plan.proofs.Axes.{covered}
+use Rattle.plan.proofs.Axes.{few-three, covered}
 use Rattle.plan.proofs.over.Statement.{statement}
 use Rattle.plan.proofs.over.Tie as tie
 use Rattle.plan.proofs.over.Reads as reads
@@ -51,12 +50,13 @@ returns-3 c = simp (told (c .before .before .before .before .before .before .bef
 
 count-requires : tie.Need-count-requires
 count-requires c κs =
-    record {
-      x-few = covered (c .before .before .before .before .before .before .before .before .before .before .before .before .args .s) (c .before .before .before .before .before .before .before .before .before .before .before .before .args .c) (c .before .before .before .before .before .before .before .before .before .before .before .before .args .b .x0) (c .before .before .before .before .before .before .before .before .before .before .before .before .args .b .x1) _ _ (c .before .before .before .before .before .before .before .before .before .before .before .before .pre .0) (told (c .before .before .before .before .before .before .before .before .before .before .before .along .ensures) (c .before .before .before .before .before .before .before .before .before .ox .given .1));
-      y-few = covered (c .before .before .before .before .before .before .before .before .before .before .before .before .args .s) (c .before .before .before .before .before .before .before .before .before .before .before .before .args .c) (c .before .before .before .before .before .before .before .before .before .before .before .before .args .b .y0) (c .before .before .before .before .before .before .before .before .before .before .before .before .args .b .y1) _ _ (c .before .before .before .before .before .before .before .before .before .before .before .before .pre .0) (told (c .before .before .before .before .before .before .before .along2 .ensures) (c .before .before .before .before .before .oy .given .1));
-      z-few = covered (c .before .before .before .before .before .before .before .before .before .before .before .before .args .s) (c .before .before .before .before .before .before .before .before .before .before .before .before .args .c) (c .before .before .before .before .before .before .before .before .before .before .before .before .args .b .z0) (c .before .before .before .before .before .before .before .before .before .before .before .before .args .b .z1) _ _ (c .before .before .before .before .before .before .before .before .before .before .before .before .pre .0) (told (c .before .before .before .along3 .ensures) (c .before .oz .given .1));
-      levels-few = c .before .before .before .before .before .before .before .before .before .before .before .before .pre .1;
-    }
+    let s = c .before .before .before .before .before .before .before .before .before .before .before .before in
+    let a = s .args in
+    few-three
+    (covered (a .s) (a .c) (a .b .x0) (a .b .x1) _ _ (s .pre .0) (told (c .before .before .before .before .before .before .before .before .before .before .before .along .ensures) (c .before .before .before .before .before .before .before .before .before .ox .given .1)))
+    (covered (a .s) (a .c) (a .b .y0) (a .b .y1) _ _ (s .pre .0) (told (c .before .before .before .before .before .before .before .along2 .ensures) (c .before .before .before .before .before .oy .given .1)))
+    (covered (a .s) (a .c) (a .b .z0) (a .b .z1) _ _ (s .pre .0) (told (c .before .before .before .along3 .ensures) (c .before .oz .given .1)))
+    (s .pre .1)
 
 cast-if1 : tie.Need-cast-if1
 cast-if1 c = search needs

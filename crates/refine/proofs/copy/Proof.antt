@@ -2,8 +2,8 @@
 use native.Mathlib.Omega.{arith}
 use Prim.Native.Nat.{_-_, _≤_}
 use lib.ListN.{length, getD}
-use Rattle.balance.specs.Sweep.{Swept}
-use Rattle.balance.proofs.Sweeping.{swept-none}
+use Rattle.octree.specs.Sweep.{Swept}
+use Rattle.octree.proofs.Sweeping.{swept-none}
 use Rattle.refine.proofs.Copying.{copied-more, copied}
 use mathlib.Core.Path.{refl}
 use Rattle.refine.proofs.copy.Statement.{statement}

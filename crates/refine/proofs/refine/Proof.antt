@@ -1,7 +1,7 @@
 -- `refine::refine` meets its contract. Assumes nothing.
 use mathlib.Core.Path.{sym, _∙_}
 use lib.Seq.{length-take-le}
-use Rattle.refine.proofs.Steps.{refused-plan, refinable, refused, short, done}
+use Rattle.refine.proofs.WaysOut.{refused-plan, asked, refused, short, done}
 use borrow.Author.Needs.{needs}
 use Rattle.refine.proofs.refine.Statement.{statement}
 use Rattle.refine.proofs.refine.Tie as tie
@@ -28,22 +28,26 @@ judge-requires : tie.Need-judge-requires
 judge-requires c κs = search needs
 
 returns-2 : tie.Need-returns-2
-returns-2 c = let s = c .before .before .before .before .before .before .before .before .before .args in refused (s .b) (s .c) (s .levels) (s .crossing .now) (s .split .now) (sym (c .before .before .before .before .before .before .new .ensures) ∙ c .before .before .before .before .a .given .1) (c .before .judge .ensures) (c .if1 .taken)
+returns-2 c =
+    let s = c .before .before .before .before .before .before .before .before .before .args in
+    refused (s .b) (s .c) (s .levels) (s .crossing .now) (s .split .now) (sym (c .before .before .before .before .before .before .new .ensures) ∙ c .before .before .before .before .a .given .1) (c .before .judge .ensures) (c .if1 .taken)
 
 returns-3 : tie.Need-returns-3
-returns-3 c = let s = c .before .before .before .before .before .before .before .before .before .before .args in short (s .b) (s .c) (s .levels) (s .crossing .now) (s .split .now) (sym (c .before .before .before .before .before .before .before .new .ensures) ∙ c .before .before .before .before .before .a .given .1) (sym (c .before .before .judge .ensures) ∙ c .before .if1 .left) (c .if2 .taken)
+returns-3 c =
+    let s = c .before .before .before .before .before .before .before .before .before .before .args in
+    short (s .b) (s .c) (s .levels) (s .crossing .now) (s .split .now) (sym (c .before .before .before .before .before .before .before .new .ensures) ∙ c .before .before .before .before .before .a .given .1) (sym (c .before .before .judge .ensures) ∙ c .before .if1 .left) (c .if2 .taken)
 
-cast-dx : tie.Need-cast-dx
-cast-dx c = search needs
+cast-t14 : tie.Need-cast-t14
+cast-t14 c = search needs
 
-cast-dy : tie.Need-cast-dy
-cast-dy c = search needs
+cast-t16 : tie.Need-cast-t16
+cast-t16 c = search needs
 
-cast-dz : tie.Need-cast-dz
-cast-dz c = search needs
+cast-t17 : tie.Need-cast-t17
+cast-t17 c = search needs
 
-cast-l : tie.Need-cast-l
-cast-l c = search needs
+cast-t18 : tie.Need-cast-t18
+cast-t18 c = search needs
 
 slice-relend-prefix-refine-table : tie.Need-slice-relend-prefix-refine-table
 slice-relend-prefix-refine-table c = search needs
@@ -52,13 +56,17 @@ slice-aggregate-refine-table : tie.Need-slice-aggregate-refine-table
 slice-aggregate-refine-table c = sym (length-take-le _ _ (c .before .before .before .before .before .if2 .left))
 
 refine-table-requires : tie.Need-refine-table-requires
-refine-table-requires c κs = let s = c .before .before .before .before .before .before .before .before .before .before .before .before .before .before .before .args in refinable (s .b) (s .c) (s .levels) (s .crossing .now) (s .split .now) (sym (c .before .before .before .before .before .before .before .before .before .before .before .before .new .ensures) ∙ c .before .before .before .before .before .before .before .before .before .before .a .given .1) (sym (c .before .before .before .before .before .before .before .judge .ensures) ∙ c .before .before .before .before .before .before .if1 .left) (c .before .before .before .before .before .if2 .left)
+refine-table-requires c κs =
+    let s = c .before .before .before .before .before .before .before .before .before .before .before .before .before .before .before .args in
+    asked (s .b) (s .c) (s .levels) (s .crossing .now) (s .split .now) (sym (c .before .before .before .before .before .before .before .before .before .before .before .before .new .ensures) ∙ c .before .before .before .before .before .before .before .before .before .before .a .given .1) (sym (c .before .before .before .before .before .before .before .judge .ensures) ∙ c .before .before .before .before .before .before .if1 .left) (c .before .before .before .before .before .if2 .left)
 
 same-length : tie.Need-same-length
 same-length c = search needs
 
 returns-4 : tie.Need-returns-4
-returns-4 c = let s = c .before .before .before .before .before .before .before .before .before .before .before .before .before .before .before .before .before .before .args in done (s .b) (s .c) (s .levels) (s .crossing .now) (s .split .now) (sym (c .before .before .before .before .before .before .before .before .before .before .before .before .before .before .before .new .ensures) ∙ c .before .before .before .before .before .before .before .before .before .before .before .before .before .a .given .1) (sym (c .before .before .before .before .before .before .before .before .before .before .judge .ensures) ∙ c .before .before .before .before .before .before .before .before .before .if1 .left) (c .before .before .before .before .before .before .before .before .if2 .left) (c .before .before .refine-table .ensures)
+returns-4 c =
+    let s = c .before .before .before .before .before .before .before .before .before .before .before .before .before .before .before .before .before .before .args in
+    done (s .b) (s .c) (s .levels) (s .crossing .now) (s .split .now) (sym (c .before .before .before .before .before .before .before .before .before .before .before .before .before .before .before .new .ensures) ∙ c .before .before .before .before .before .before .before .before .before .before .before .before .before .a .given .1) (sym (c .before .before .before .before .before .before .before .before .before .before .judge .ensures) ∙ c .before .before .before .before .before .before .before .before .before .if1 .left) (c .before .before .before .before .before .before .before .before .if2 .left) (c .before .before .refine-table .ensures)
 
 pub refine-spec : {M : Type 1} → statement M
 refine-spec =
@@ -73,10 +81,10 @@ refine-spec =
     judge-requires
     returns-2
     returns-3
-    cast-dx
-    cast-dy
-    cast-dz
-    cast-l
+    cast-t14
+    cast-t16
+    cast-t17
+    cast-t18
     slice-relend-prefix-refine-table
     slice-aggregate-refine-table
     refine-table-requires

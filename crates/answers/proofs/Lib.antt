@@ -1,0 +1,2 @@
+-- Laws of the reading of the crossing answers.
+pub mod Clearing

@@ -1,0 +1,2 @@
+-- The crossing answers of octants, and which of them count.
+pub mod Parts

@@ -1,0 +1,4 @@
+-- The split table of an octree as code meets it.
+pub mod Parts
+pub mod Sweep
+pub mod Rows

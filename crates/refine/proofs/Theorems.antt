@@ -1,0 +1,99 @@
+-- The refusals of the step refine, its outcome as a whole, and demand 3. Assumes nothing.
+use mathlib.Core.Path.{_≡_, refl, sym, ap, _∙_}
+use mathlib.Core.Logic.{_↔_}
+use mathlib.Core.Bool.{Bool, true, false, cond}
+use mathlib.Core.List.{List, [], _∷_, _++_, append-nil}
+use Prim.Native.Nat.{ℕ, _<_}
+use lib.Dec.{ltb}
+use lib.Ieee.{Float}
+use lib.ListN.{length, drop}
+use Rattle.refusals.specs.Rows.{_when_, first, proper, rising, caused, lower}
+use Rattle.lists.specs.Tables.{front, on, Determined}
+use Rattle.refusals.proofs.Rows.{number-rows, goes-on, exactly}
+use Rattle.lists.proofs.Lent.{as-new, determined}
+use Rattle.plan.specs.Plan.{planOf, planRows, onPlan}
+use Rattle.plan.specs.Plan as plan
+use Rattle.plan.proofs.Refusals as refusals
+use Rattle.plan.specs.declared.Bounds.{Bounds}
+use Rattle.plan.specs.declared.Plan.{Plan}
+use Rattle.plan.specs.declared.Planned.{Planned}
+use Rattle.plan.specs.declared.Planned.the-variants as planned
+use Rattle.space.specs.Space.{Pos}
+use Rattle.octants.specs.Oct.{Tree, raw}
+use Rattle.octants.specs.Table.{read, table, total}
+use Rattle.octants.proofs.TableLaws.{length-levels}
+use Rattle.octants.specs.Demand.{LeastRefinement}
+use Rattle.octants.proofs.DemandTable.{least-agree, table-least, front-agree}
+use Rattle.octants.specs.Rounds.{Rounds}
+use Rattle.octants.proofs.Rounds.{rounds-refined, rounds-table}
+use Rattle.octree.specs.Rows.{answerRows}
+use Rattle.refine.specs.Step.{roomRows, refineRows, numberOf, rootsOf, splitOf, answerFor, refinedOf, splitAfter, RefineDone}
+use Rattle.refine.specs.declared.Refined.{Refined}
+use Rattle.refine.specs.declared.Refined.the-variants.{Done, Refused, Short}
+
+answer-number : (p : Plan) (C o : List ℕ) → numberOf (answerFor p C o) ≡ first (answerRows (p .octants) C ++ roomRows (p .octants) o)
+unfolding answerFor
+answer-number p C o =
+    number-rows numberOf Refused _ (answerRows (p .octants) C) (roomRows (p .octants) o) (unfold proper in unfold answerRows in refl) (λ k. refl) (last (ltb (length o) (p .octants)))
+  where
+    last : (t : Bool) → numberOf (cond t (Short (p .octants)) (Done (total (splitOf p C)))) ≡ first (9 when t ∷ [])
+    last true = unfold first in refl
+    last false = unfold first in refl
+
+module _ (b : Bounds) (c : Float) (levels : ℕ) (C o : List ℕ) where
+  -- the number is that of the first row whose cause is there
+  pub number-is : numberOf (refinedOf b c levels C o) ≡ first (refineRows b c levels C o)
+  unfolding refinedOf
+  number-is = go (planOf b c levels) (refusals.number-is b c levels)
+    where
+      go : (a : Planned) → plan.numberOf a ≡ first (planRows b c levels)
+          → numberOf (onPlan a Refused (λ p. answerFor p C o)) ≡ first (planRows b c levels ++ onPlan a (λ n. []) (λ p. answerRows (p .octants) C ++ roomRows (p .octants) o))
+      go (planned.Ready p) e = answer-number p C o ∙ sym (goes-on (planRows b c levels) (answerRows (p .octants) C ++ roomRows (p .octants) o) (unfold proper in unfold planRows in refl) e refl)
+      go (planned.Refused n) e = e ∙ ap first (sym (append-nil (planRows b c levels)))
+
+  -- a number is given exactly when its cause is there, and none for a lower one
+  pub refine-exactly : (k : ℕ) → 0 < k
+      → (numberOf (refinedOf b c levels C o) ≡ k) ↔ ((caused k (refineRows b c levels C o) ≡ true) × (lower k (refineRows b c levels C o) ≡ false))
+  refine-exactly = exactly (refineRows b c levels C o) (rise (planOf b c levels)) number-is
+    where
+      rise : (a : Planned) → rising 1 (planRows b c levels ++ onPlan a (λ n. []) (λ p. answerRows (p .octants) C ++ roomRows (p .octants) o)) ≡ true
+      rise (planned.Ready p) = unfold rising in unfold planRows in unfold answerRows in refl
+      rise (planned.Refused n) = unfold rising in unfold planRows in refl
+
+  -- the contract allows one outcome
+  pub refine-one : Determined (λ (z : Refined × List ℕ). RefineDone b c levels C o (z .0) (z .1))
+  refine-one = determined (λ z a i. (a .answer i, a .split i))
+
+  -- ---- on an answer
+
+  module _ (p : Plan) (e : planOf b c levels ≡ planned.Ready p) (z : numberOf (refinedOf b c levels C o) ≡ 0) where
+    -- the split table begins with the splits, and is as lent past them
+    pub split-is : splitAfter b c levels C o ≡ front (p .octants) (splitOf p C) o
+    unfolding refinedOf
+    split-is =
+        let y : numberOf (answerFor p C o) ≡ 0 = rw e at z in
+        rw e (ap (λ (k : ℕ). on (0 ∷ []) k (front (p .octants) (splitOf p C) o) o) y ∙ as-new [] (front (p .octants) (splitOf p C) o) o)
+
+    -- demand 3: in the split table crossed octants under crossed ancestors are split, touching leaves differ by at most one level, and
+    -- every octree over the same roots and levels with these two properties splits all that ours splits
+    pub demand-3 : LeastRefinement (p .levels) (rootsOf p) (read (rootsOf p) (p .levels) C) (read (rootsOf p) (p .levels) (splitAfter b c levels C o))
+    unfolding read
+    demand-3 =
+        let d : Pos = rootsOf p in
+        let l : ℕ = p .levels in
+        let r : List ℕ = drop (p .octants) o in
+        rw split-is
+        (least-agree l d (read d l (splitOf p C)) (read d l (splitOf p C ++ r)) (front-agree d l (splitOf p C) r (length-levels d l _ l)) (read d l C) (λ x. refl)
+        (table-least d l C))
+
+-- the Rust's balance of the octree that the answers split: its rounds over a snapshot end, and wherever they end is our split table
+module _ (p : Plan) (C : List ℕ) where
+  abbrev pub answered : Tree
+  answered = raw (p .levels) (read (rootsOf p) (p .levels) C)
+
+  pub rounds-end : (t : Tree) × Rounds (p .levels) (rootsOf p) answered t
+  unfolding read
+  rounds-end = rounds-refined (p .levels) (rootsOf p) (read (rootsOf p) (p .levels) C) (λ x. refl) .ends
+
+  pub rounds-split : (t : Tree) → Rounds (p .levels) (rootsOf p) answered t → table (rootsOf p) (p .levels) t ≡ splitOf p C
+  rounds-split t r = rounds-table (rootsOf p) (p .levels) C t r

@@ -1,0 +1,95 @@
+-- The outcomes of the step, one law for each way out. Assumes nothing.
+use mathlib.Core.Path.{_≡_, refl, sym, ap, _∙_}
+use mathlib.Core.Logic.{_≢_}
+use mathlib.Core.List.{List, [], _∷_, _++_}
+use Prim.Native.Nat.{ℕ, _+_, _≤_, _<_}
+use native.Mathlib.Omega.{arith}
+use borrow.Author.Tests.{eqb-true, not-false, lt-ltb, le-ltb}
+use lib.Ieee.{Float}
+use lib.ListN.{length, take, drop}
+use lib.Seq.{length-take-le}
+use Rattle.refusals.specs.Rows.{first, proper}
+use Rattle.lists.specs.Tables.{front, on}
+use Rattle.refusals.proofs.Rows.{clear, unless-none, unless-some}
+use Rattle.lists.proofs.Lent.{as-lent, as-new}
+use Rattle.plan.specs.Plan.{planOf}
+use Rattle.plan.specs.Plan as plan
+use Rattle.plan.specs.declared.Bounds.{Bounds}
+use Rattle.plan.specs.declared.Plan.{Plan}
+use Rattle.plan.specs.declared.Planned.{Planned}
+use Rattle.plan.specs.declared.Planned.the-variants as planned
+use Rattle.plan.proofs.Ready.{ReadyPlan, ready}
+use Rattle.space.specs.Levels.{mostRoots, off}
+use Rattle.space.proofs.Space.{on-all}
+use Rattle.octree.specs.Rows.{answerRows}
+use Rattle.refine.specs.Parts.{TableAsked, TableDone}
+use Rattle.refine.specs.Step.{numberOf, rootsOf, splitOf, answerFor, refinedOf, splitFor, RefineDone}
+use Rattle.refine.specs.declared.Refined.{Refined}
+use Rattle.refine.specs.declared.Refined.the-variants.{Done, Refused, Short}
+
+module _ (b : Bounds) (c : Float) (levels : ℕ) (C o : List ℕ) where
+  -- refused by the plan
+  pub refused-plan : {r : Planned} {k n : ℕ} → r ≡ planOf b c levels → r ≡ planned.Refused k → n ≡ plan.numberOf r → RefineDone b c levels C o (Refused n) o
+  unfolding refinedOf
+  refused-plan {r} {k} {n} e f g =
+      let p : planOf b c levels ≡ planned.Refused k = sym e ∙ f in
+      let q : n ≡ k = g ∙ ap plan.numberOf f in
+      record { answer = rw (p, q); split = rw p }
+
+  module _ {p : Plan} (e : planOf b c levels ≡ planned.Ready p) where
+    -- what is asked of the tables that are lent on
+    pub asked : first (answerRows (p .octants) C) ≡ 0 → p .octants ≤ length o
+        → TableAsked (record { nx = p .nx; ny = p .ny; nz = p .nz; levels = p .levels }) C (take (p .octants) o)
+    unfolding answerRows first proper
+    asked z h =
+        let r : ReadyPlan levels p = ready b c levels p e in
+        let k = clear (answerRows (p .octants) C) refl z in
+        let n : length C ≡ p .octants = eqb-true _ _ (not-false _ (k 0)) in
+        let f : p .levels ≡ levels = r .levels-are in
+        let m : length C ≡ off (rootsOf p) (p .levels) = n ∙ r .octants-are ∙ ap (off (rootsOf p)) (sym f) in
+        record {
+          covers = λ i.
+              let j : 1 ≤ levels = omega arith in
+              record {
+                roots = record {
+                  some = on-all (λ a. 1 ≤ rootsOf p a) (r .x .some) (r .y .some) (r .z .some);
+                  few = on-all (λ a. rootsOf p a ≤ mostRoots) (r .x .roots j) (r .y .roots j) (r .z .roots j);
+                };
+                levels = omega (arith, r .levels-few);
+                octants = m;
+              };
+          octants = m;
+          few = omega (arith, r .octants-few);
+          same = length-take-le (p .octants) o h ∙ sym n;
+          answers = not-false _ (k 1);
+        }
+
+    -- the outcome, by the answer of the plan
+    by-answer : {r : Refined} {o′ : List ℕ} → r ≡ answerFor p C o → o′ ≡ splitFor p C o → RefineDone b c levels C o r o′
+    unfolding refinedOf
+    by-answer f g = record { answer = f ∙ rw e; split = g ∙ rw e }
+
+    -- refused by the crossing table
+    pub refused : {n : ℕ} → n ≡ first (answerRows (p .octants) C) → n ≢ 0 → RefineDone b c levels C o (Refused n) o
+    unfolding answerFor
+    refused {n} f h =
+        let d : first (answerRows (p .octants) C) ≢ 0 = λ q. h (f ∙ q) in
+        let a : Refused n ≡ answerFor p C o = ap Refused f ∙ sym (unless-some (first (answerRows (p .octants) C)) Refused _ d) in
+        by-answer a (sym (as-lent (numberOf (answerFor p C o)) _ o (λ q. h (ap numberOf a ∙ q))))
+
+    module _ (z : first (answerRows (p .octants) C) ≡ 0) where
+      pub short : length o < p .octants → RefineDone b c levels C o (Short (p .octants)) o
+      unfolding answerFor
+      short h =
+          let a : Short (p .octants) ≡ answerFor p C o = sym (unless-none (first (answerRows (p .octants) C)) Refused _ z ∙ rw (lt-ltb (length o) (p .octants) h)) in
+          by-answer a (sym (as-lent (numberOf (answerFor p C o)) _ o (λ q. nine (ap numberOf a ∙ q))))
+        where
+          nine : _≡_ {A = ℕ} 9 0 → ⊥
+          nine q = omega arith
+
+      pub done : {n : ℕ} {s : List ℕ} → p .octants ≤ length o → TableDone (record { nx = p .nx; ny = p .ny; nz = p .nz; levels = p .levels }) C n s
+          → RefineDone b c levels C o (Done n) (s ++ drop (p .octants) o)
+      unfolding answerFor
+      done {n} {s} h t =
+          let a : Done n ≡ answerFor p C o = ap Done (t .ones) ∙ sym (unless-none (first (answerRows (p .octants) C)) Refused _ z ∙ rw (le-ltb (length o) (p .octants) h)) in
+          by-answer a (ap (λ (l : List ℕ). l ++ drop (p .octants) o) (t .split) ∙ sym (ap (λ (k : ℕ). on (0 ∷ []) k (front (p .octants) (splitOf p C) o) o) (sym (ap numberOf a)) ∙ as-new [] _ o))
