@@ -8,7 +8,8 @@ use lib.Dec.{eqb}
 use lib.ListN.{getD, length}
 use Rattle.lists.specs.Tests.{bit}
 use Rattle.lists.specs.Tables.{allAtMost}
-use Rattle.space.specs.Space.{ax, ay, Pos}
+use Rattle.space.specs.Space.{ax, ay, Pos, pos}
+use Rattle.space.proofs.Space.{inside-three}
 use Rattle.space.specs.Levels.{depth, size, off}
 use Rattle.space.proofs.Levels.{off-suc}
 use Rattle.octants.specs.Oct.{Tree, parent, raw, rawFrom}
@@ -50,7 +51,7 @@ module _ (v : Level) (r : ℕ) {p : Level} (e : p ≡ belowOf v) where
       let l = row-layer (2 * v .nx) (2 * v .ny) (2 * v .nz) r (omega arith) (h .1) in
       let y : r % (2 * v .ny) / 2 < v .ny = omega (arith, l .0) in
       let z : r / (2 * v .ny) / 2 < v .nz = omega (arith, l .1) in
-      let o = slot-room (v .start) (belowOf v .start) {nx = v .nx} {x = v .nx - 1} (omega arith) y z (omega arith) in
+      let o = slot-room (v .start) (belowOf v .start) (countsOf v) (pos (v .nx - 1) (r % (2 * v .ny) / 2) (r / (2 * v .ny) / 2)) (inside-three (omega arith) y z) (omega arith) in
       record { some = omega arith; room = omega (arith, k .room, row-fits (2 * v .nx) (2 * v .ny) (2 * v .nz) r (h .1)); layer = o .1; over = omega (arith, o .0) })
 
   pub row-cleared : {t s : List ℕ} {o : ℕ} → o ≡ slotOver v p r

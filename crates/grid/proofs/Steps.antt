@@ -12,12 +12,13 @@ use lib.ListN.{length, take, drop, replicate, take-append-drop, drop-of-length-l
 use lib.Seq.{length-take-le}
 use Rattle.refusals.specs.Rows.{first, proper}
 use Rattle.refusals.proofs.Rows.{clear, unless-none, unless-some}
-use Rattle.space.specs.Space.{pos}
+use Rattle.space.specs.Space.{pos, Pos}
+use Rattle.space.proofs.Space.{on-all}
 use Rattle.space.specs.Levels.{off, size, depth}
 use Rattle.octants.specs.Judge.{isGraded}
 use Rattle.octants.proofs.Judge.{graded-closes}
 use Rattle.sides.specs.Told.{Taken}
-use Rattle.plan.specs.Plan.{planOf, octantsOf}
+use Rattle.plan.specs.Plan.{planOf}
 use Rattle.plan.proofs.Ready.{ReadyPlan, ready}
 use Rattle.plan.specs.declared.Bounds.{Bounds}
 use Rattle.plan.specs.declared.Plan.{Plan}
@@ -103,11 +104,6 @@ module _ (p : Plan) (s C T P w : List ℕ) {n : ℕ} (en : n ≡ cellCount p s) 
 
 -- ---- a plan that is ready
 
-octants-off : (l nx ny nz : ℕ) → octantsOf l nx ny nz ≡ off (pos nx ny nz) l
-unfolding octantsOf off
-octants-off zero nx ny nz = refl
-octants-off (suc k) nx ny nz = ap (λ (n : ℕ). n + size (depth (pos nx ny nz) k)) (octants-off k nx ny nz)
-
 module _ (b : Bounds) (c : Float) (levels : ℕ) (p : Plan) (e : planOf b c levels ≡ planned.Ready p) where
   known : ReadyPlan levels p
   known = ready b c levels p e
@@ -123,7 +119,7 @@ module _ (b : Bounds) (c : Float) (levels : ℕ) (p : Plan) (e : planOf b c leve
         dims-few = (k .x .few, k .y .few, k .z .few);
         roots-few = λ h. (k .x .roots (omega (arith, k .levels-are)), k .y .roots (omega (arith, k .levels-are)), k .z .roots (omega (arith, k .levels-are)));
         levels-few = omega (arith, k .levels-are, k .levels-few);
-        octants-are = k .octants-are ∙ octants-off levels (p .nx) (p .ny) (p .nz) ∙ ap (off (dimsOf p)) (sym (k .levels-are));
+        octants-are = k .octants-are ∙ ap (off (dimsOf p)) (sym (k .levels-are));
         octants-few = k .octants-few;
       }
 
@@ -160,7 +156,10 @@ module _ (b : Bounds) (c : Float) (levels : ℕ) (p : Plan) (e : planOf b c leve
         let k = known in
         let o : 1 ≤ levels = omega arith in
         record {
-          dims = record { x-some = k .x .some; y-some = k .y .some; z-some = k .z .some; x-few = k .x .roots o; y-few = k .y .roots o; z-few = k .z .roots o };
+          dims = record {
+            some = on-all (λ a. 1 ≤ dimsOf p a) (k .x .some) (k .y .some) (k .z .some);
+            few = on-all (λ a. dimsOf p a ≤ 64) (k .x .roots o) (k .y .roots o) (k .z .roots o);
+          };
           some = omega (arith, levels-are);
           few = planful .levels-few;
           whole = whole ∙ planful .octants-are;

@@ -9,6 +9,7 @@ ghost use Rattle.sides.specs.Told.{Taken};
 ghost use Rattle.grid.specs.Octree.{keyTable, KeysFit, Numberable, Ready, Fillable, Stocked};
 ghost use Rattle.plan.specs.Vertices.{tripleAt, pointAt};
 ghost use lib.Seq.{sets};
+use octree::Roots;
 use plan::Bounds;
 use plan::Plan;
 use plan::Planned;
@@ -57,13 +58,13 @@ fn judge(split: &[u8], p: Plan) -> u32
     if p.levels == 0 {
         return 0;
     }
-    if !balance::is_graded(
-        split,
-        p.nx as usize,
-        p.ny as usize,
-        p.nz as usize,
-        p.levels as usize,
-    ) {
+    let roots = Roots {
+        nx: p.nx as usize,
+        ny: p.ny as usize,
+        nz: p.nz as usize,
+        levels: p.levels as usize,
+    };
+    if !balance::is_graded(split, roots) {
         return 7;
     }
     0

@@ -109,9 +109,9 @@ module _ (s : List ℕ) (nx ny nz l : ℕ) (h : Taken s nx ny nz l) where
           omega arith
 
       go : (a : Axis) → (x a + 1) * 2 ^ m ≤ 2048
-      go ax = along (x ax) nx (leaf .inside ax) (h .dims .x-few)
-      go ay = along (x ay) ny (leaf .inside ay) (h .dims .y-few)
-      go az = along (x az) nz (leaf .inside az) (h .dims .z-few)
+      go ax = along (x ax) nx (leaf .inside ax) (h .dims .few ax)
+      go ay = along (x ay) ny (leaf .inside ay) (h .dims .few ay)
+      go az = along (x az) nz (leaf .inside az) (h .dims .few az)
 
   pub placed : (z : ℕ) → IsLeaf l (pos nx ny nz) (read (pos nx ny nz) l s) (levelIn z) (placeIn z) → Placed z
   placed z leaf = record { few = omega (arith, leaf .fits, h .few); within = λ a. omega (arith, along-few (levelIn z) (placeIn z) leaf a) }

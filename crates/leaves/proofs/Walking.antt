@@ -229,8 +229,8 @@ module _ (s : List ℕ) (nx ny nz l : ℕ) (h : Taken s nx ny nz l) where
 
   roots-few : (most : ℕ) → size d * (8 ^ l * most) ≤ 262144 * (32768 * most)
   roots-few most =
-      let a : nx * ny ≤ 64 * 64 = mul-le-mul (h .dims .x-few) (h .dims .y-few) in
-      let b : nx * ny * nz ≤ 64 * 64 * 64 = mul-le-mul a (h .dims .z-few) in
+      let a : nx * ny ≤ 64 * 64 = mul-le-mul (h .dims .few ax) (h .dims .few ay) in
+      let b : nx * ny * nz ≤ 64 * 64 * 64 = mul-le-mul a (h .dims .few az) in
       let c : 8 ^ l ≤ 8 ^ 5 = pow-le-pow-right {n = 8} (omega arith) (h .few) in
       let e : most ≤ most = omega arith in
       mul-le-mul b (mul-le-mul c e)
@@ -317,8 +317,8 @@ six-each l d t = leaves-times t alone (leafCells l d t) 6 leaf-six l d
 
 pub some-leaf : (s : List ℕ) (nx ny nz l : ℕ) → Taken s nx ny nz l → 1 ≤ length (leafList l (pos nx ny nz) (read (pos nx ny nz) l s))
 some-leaf s nx ny nz l h =
-    let a : 1 * 1 ≤ nx * ny = mul-le-mul (h .dims .x-some) (h .dims .y-some) in
-    let b : 1 * 1 * 1 ≤ nx * ny * nz = mul-le-mul a (h .dims .z-some) in
+    let a : 1 * 1 ≤ nx * ny = mul-le-mul (h .dims .some ax) (h .dims .some ay) in
+    let b : 1 * 1 * 1 ≤ nx * ny * nz = mul-le-mul a (h .dims .some az) in
     leaves-some (read (pos nx ny nz) l s) alone (λ m x. omega arith) l (pos nx ny nz) b
 
 -- ---- the two walks: over an empty table, and over one of just as many entries

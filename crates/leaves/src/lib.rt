@@ -1,4 +1,6 @@
 // Lists the leaves of an octree in the crate's descending order, and counts the cells that they give.
+use octree::Octant;
+use octree::Roots;
 use octree::is_split;
 use sides::count_leaf;
 ghost use mathlib.Core.Path.{_≡_};
@@ -81,7 +83,14 @@ fn walk_octant(
     requires { ⌜ Left (now split) nx ny nz levels m (pos i j k) (leavesBelow (now split) nx ny nz levels m (pos i j k)) (cellsBelow (now split) nx ny nz levels m (pos i j k)) tally ⌝ }
     ensures { λ r. ⌜ Walked (now (out .entry)) tally (leavesBelow (now (split .entry)) nx ny nz levels m (pos i j k)) (cellsBelow (now (split .entry)) nx ny nz levels m (pos i j k)) r (now (out .exit)) ⌝ }
 {
-    if is_split(split, nx, ny, nz, levels, m, i, j, k) {
+    let roots = Roots { nx, ny, nz, levels };
+    let here = Octant {
+        level: m,
+        x: i,
+        y: j,
+        z: k,
+    };
+    if is_split(split, roots, here) {
         walk_children(split, nx, ny, nz, levels, m - 1, i, j, k, 8, out, tally)
     } else {
         note_leaf(split, nx, ny, nz, levels, m, i, j, k, out, tally)

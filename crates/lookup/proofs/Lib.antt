@@ -1,2 +1,3 @@
--- Laws of the descent.
+-- Laws of the descent, and what the lookup means.
 pub mod Descent
+pub mod Theorems

@@ -1,2 +1,2 @@
 -- The leaf that covers an octant.
-pub mod Lookup
+pub mod Parts

@@ -3,7 +3,7 @@ ghost use mathlib.Core.Path.{_≡_};
 ghost use Prim.Native.Nat.{_+_, _*_, _^_, _≤_, _<_};
 ghost use lib.ListN.{length};
 ghost use Rattle.space.specs.Space.{pos};
-ghost use Rattle.octants.specs.Oct.{counts, hit};
+ghost use Rattle.octants.specs.Oct.{counts, within, hit};
 ghost use Rattle.space.specs.Levels.{mostLevels, mostRoots, mostAlong, Counts, size};
 ghost use Rattle.octants.specs.Table.{at};
 ghost use Rattle.octree.specs.Parts.{rootsOf, placeOf, countsOf, treeOf, Covers, levelAt, belowOf};
@@ -40,6 +40,19 @@ pub fn slot_of(nx: usize, ny: usize, x: usize, y: usize, z: usize) -> usize
     x + y * nx + z * (nx * ny)
 }
 
+// Whether octant (x, y, z) is there, in a level with nx, ny and nz octants along the axes.
+pub fn is_inside(nx: usize, ny: usize, nz: usize, x: usize, y: usize, z: usize) -> bool
+    ensures { λ r. ⌜ r ≡ within (pos nx ny nz) (pos x y z) ⌝ }
+{
+    if nx <= x {
+        return false;
+    }
+    if ny <= y {
+        return false;
+    }
+    z < nz
+}
+
 // Whether octant (x, y, z) is there and split in the level that begins at o.
 pub fn hits(
     s: &[u8],
@@ -54,13 +67,7 @@ pub fn hits(
     requires { ⌜ o + size (pos nx ny nz) ≤ length (now s) ⌝ }
     ensures { λ r. ⌜ r ≡ hit (pos nx ny nz) (at (now (s .entry)) o (pos nx ny nz)) (pos x y z) ⌝ }
 {
-    if nx <= x {
-        return false;
-    }
-    if ny <= y {
-        return false;
-    }
-    if nz <= z {
+    if !is_inside(nx, ny, nz, x, y, z) {
         return false;
     }
     let i = o + slot_of(nx, ny, x, y, z);

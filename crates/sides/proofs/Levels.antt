@@ -65,9 +65,9 @@ pub record Small (nx ny nz w : ℕ) : Type 0 where
 
 pub small : (nx ny nz w d : ℕ) → Dims nx ny nz → w ≡ 1 * 2 ^ d → d ≤ 5 → Small nx ny nz w
 small nx ny nz w d g f k =
-    let hx : nx ≤ 64 = g .x-few in
-    let hy : ny ≤ 64 = g .y-few in
-    let hz : nz ≤ 64 = g .z-few in
+    let hx : nx ≤ 64 = g .few ax in
+    let hy : ny ≤ 64 = g .few ay in
+    let hz : nz ≤ 64 = g .few az in
     let hw : w ≤ 32 = unit-width w d f k .1 in
     let e : w ≡ 2 ^ d = unit-width w d f k .0 in
     let h1 : 1 ≤ w = omega (arith, e, pow-pos d) in
@@ -108,9 +108,9 @@ pub in-small : (nx ny nz l m : ℕ) (x : Pos) → Dims nx ny nz → l ≤ 5 → 
 in-small nx ny nz l m x h f p =
     let e : l - m ≤ 5 = omega arith in
     let w : 2 ^ (l - m) ≤ 32 = pow-mono e in
-    let i : nx * 2 ^ (l - m) ≤ 64 * 32 = mul-le-mul (h .x-few) w in
-    let j : ny * 2 ^ (l - m) ≤ 64 * 32 = mul-le-mul (h .y-few) w in
-    let k : nz * 2 ^ (l - m) ≤ 64 * 32 = mul-le-mul (h .z-few) w in
+    let i : nx * 2 ^ (l - m) ≤ 64 * 32 = mul-le-mul (h .few ax) w in
+    let j : ny * 2 ^ (l - m) ≤ 64 * 32 = mul-le-mul (h .few ay) w in
+    let k : nz * 2 ^ (l - m) ≤ 64 * 32 = mul-le-mul (h .few az) w in
     (lt-of-lt-of-le (p ax) i, lt-of-lt-of-le (p ay) j, lt-of-lt-of-le (p az) k)
 
 pub place-small : (s : List ℕ) (nx ny nz l m i j k : ℕ) → Taken s nx ny nz l → IsLeaf l (pos nx ny nz) (read (pos nx ny nz) l s) m (pos i j k)

@@ -8,6 +8,7 @@ use native.Mathlib.Omega.{arith}
 use lib.Dec.{eqb}
 use lib.ListN.{length, replicate, length-map}
 use Rattle.space.specs.Space.{Axis, ax, ay, az, Pos, pos}
+use Rattle.space.proofs.Space.{on-all}
 use Rattle.lists.specs.Tests.{any}
 use Rattle.octants.specs.Oct.{Tree, Closed}
 use Rattle.lists.proofs.Bools.{clash}
@@ -44,7 +45,7 @@ reads-whole = fun-ext (λ m. fun-ext (go m))
 taken : Taken unsplit 6 6 6 1
 unfolding off
 taken = record {
-  dims = record { x-some = omega arith; y-some = omega arith; z-some = omega arith; x-few = omega arith; y-few = omega arith; z-few = omega arith };
+  dims = record { some = on-all (λ a. 1 ≤ six a) (omega arith) (omega arith) (omega arith); few = on-all (λ a. six a ≤ 64) (omega arith) (omega arith) (omega arith) };
   some = omega arith;
   few = omega arith;
   whole = refl;

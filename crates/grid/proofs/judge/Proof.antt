@@ -1,12 +1,13 @@
 use mathlib.Core.Path.{_≡_, refl, _∙_}
 use mathlib.Core.Bool.{true}
 use mathlib.Core.List.{List}
-use Prim.Native.Nat.{ℕ}
+use Prim.Native.Nat.{ℕ, _≤_}
 use native.Mathlib.Omega.{arith}
 use borrow.Author.Tests.{eq-eqb, ne-eqb}
 use Rattle.refusals.specs.Rows.{first}
 use Rattle.lists.proofs.Tests.{failed, passed}
 use Rattle.space.specs.Space.{Pos}
+use Rattle.space.proofs.Space.{on-all}
 use Rattle.lists.specs.Tests.{any}
 use Rattle.octants.specs.Judge.{isGraded}
 use Rattle.plan.specs.Vertices.{dimsOf}
@@ -40,23 +41,34 @@ returns-3 c =
     let p = c .before .before .before .before .before .before .before .args .p in
     rw (eq-eqb _ _ (c .before .before .before .before .if1 .left), passed (c .before .before .before .all-at-most .ensures) (c .before .before .if2 .left), flat-graded (dimsOf p) _ _ (c .if3 .taken)) refl
 
-cast-is-graded : tie.Need-cast-is-graded
-cast-is-graded c = search needs
+cast-t4 : tie.Need-cast-t4
+cast-t4 c = search needs
 
-cast-is-graded-2 : tie.Need-cast-is-graded-2
-cast-is-graded-2 c = search needs
+cast-t5 : tie.Need-cast-t5
+cast-t5 c = search needs
 
-cast-is-graded-3 : tie.Need-cast-is-graded-3
-cast-is-graded-3 c = search needs
+cast-t8 : tie.Need-cast-t8
+cast-t8 c = search needs
 
-cast-is-graded-4 : tie.Need-cast-is-graded-4
-cast-is-graded-4 c = search needs
+cast-t9 : tie.Need-cast-t9
+cast-t9 c = search needs
 
 is-graded-requires : tie.Need-is-graded-requires
 is-graded-requires c κs =
     let q = c .before .before .before .before .before .before .before .before .before .before .before .pre in
-    let r = q .roots-few (omega (arith, c .before .before .before .before .if3 .left)) in
-    (record { x-some = q .dims-some .0; y-some = q .dims-some .1; z-some = q .dims-some .2; x-few = r .0; y-few = r .1; z-few = r .2 }, omega (arith, c .before .before .before .before .if3 .left), q .levels-few, c .before .before .before .before .before .before .before .before .if1 .left ∙ q .octants-are)
+    let p = c .before .before .before .before .before .before .before .before .before .before .before .args .p in
+    let f : 1 ≤ p .levels = omega (arith, c .before .before .before .before .if3 .left) in
+    let r = q .roots-few f in (
+      record {
+        roots = record {
+          some = on-all (λ a. 1 ≤ dimsOf p a) (q .dims-some .0) (q .dims-some .1) (q .dims-some .2);
+          few = on-all (λ a. dimsOf p a ≤ 64) (r .0) (r .1) (r .2);
+        };
+        levels = q .levels-few;
+        octants = c .before .before .before .before .before .before .before .before .if1 .left ∙ q .octants-are;
+      },
+      f,
+    )
 
 returns-4 : tie.Need-returns-4
 unfolding splitRows first
@@ -75,10 +87,10 @@ judge-spec =
     all-at-most-requires
     returns-2
     returns-3
-    cast-is-graded
-    cast-is-graded-2
-    cast-is-graded-3
-    cast-is-graded-4
+    cast-t4
+    cast-t5
+    cast-t8
+    cast-t9
     is-graded-requires
     returns-4
     returns-5)

@@ -189,7 +189,7 @@ walk-octant-is-split-requires : (t : ℕ) → walk-octant-lts.Need-is-split-requ
 walk-octant-is-split-requires t c κs =
     let b = c .before .before in
     let h = b .pre .1 .0 in
-    (h .dims, h .few, (b .pre .1 .1) .fits, h .whole)
+    (record { roots = h .dims; levels = h .few; octants = h .whole }, (b .pre .1 .1) .fits)
 
 walk-octant-sub-walk-children : (t : ℕ) → walk-octant-lts.Need-sub-walk-children (
   is-split-reads.Asked,

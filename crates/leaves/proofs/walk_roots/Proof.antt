@@ -1,6 +1,7 @@
 use native.Mathlib.Omega.{arith}
 use native.Mathlib.Nat.{mul-le-mul}
-use Prim.Native.Nat.{ℕ, _*_, _≤_}
+use Prim.Native.Nat.{ℕ, _*_, _≤_, _<_}
+use Rattle.space.specs.Space.{ax, ay, az}
 use Rattle.octants.specs.Levels.{Dims}
 use Rattle.leaves.proofs.Walking.{Going, going-start, going-root, going-on, going-done}
 use Rattle.leaves.proofs.walk_roots.Statement.{statement}
@@ -14,9 +15,9 @@ record Few (nx ny nz : ℕ) : Type 0 where
   xyz : nx * ny * nz ≤ 64 * 64 * 64
 
 roots : {nx ny nz : ℕ} → Dims nx ny nz → Few nx ny nz
-roots d =
-    let a = mul-le-mul (d .x-few) (d .y-few) in
-    record { x = d .x-some; y = d .y-some; xy = a; some = mul-le-mul (d .x-some) (d .y-some); xyz = mul-le-mul a (d .z-few) }
+roots {nx} {ny} {nz} d =
+    let a = mul-le-mul (d .few ax) (d .few ay) in
+    record { x = d .some ax; y = d .some ay; xy = a; some = mul-le-mul (d .some ax) (d .some ay); xyz = mul-le-mul a (d .few az) }
 
 abbrev Inv-loop : tie.InvT-loop
 Inv-loop split nx ny nz levels out₀ left₀ tally₀ out left tally = Going split nx ny nz levels out₀ out left tally

@@ -1,40 +1,52 @@
 -- `lookup::covering_leaf` meets its contract. Assumes nothing.
-use mathlib.Core.Path.{_∙_}
+use mathlib.Core.Path.{_≡_, ap, _∙_}
 use native.Mathlib.Omega.{arith}
-use Rattle.space.specs.Space.{pos}
-use Rattle.octants.specs.Oct.{counts}
-use Rattle.octants.specs.Table.{read}
-use Rattle.lookup.proofs.Descent.{covered-outside, covered-inside, out-x, out-y, out-z, in-all}
 use borrow.Author.Needs.{needs}
+use Rattle.lists.proofs.Tests.{failed, passed}
+use Rattle.space.specs.Space.{ax, ay, az, Pos}
+use Rattle.octants.specs.Oct.{counts, within}
+use Rattle.octants.proofs.Near.{within-in}
+use Rattle.octree.specs.Parts.{rootsOf, placeOf, treeOf}
+use Rattle.lookup.proofs.Descent.{covered-outside, covered-inside, counts-are}
 use Rattle.lookup.proofs.covering_leaf.Statement.{statement}
 use Rattle.lookup.proofs.covering_leaf.Tie as tie
+
+inside : (c : tie.After-is-inside) → let a = c .before .before .before .before .before .before .before .args in c .is-inside .result ≡ within (counts (a .d .levels) (rootsOf (a .d)) (a .o .level)) (placeOf (a .o))
+inside c =
+    let a = c .before .before .before .before .before .before .before .args in
+    c .is-inside .ensures
+    ∙ ap (λ (n : Pos). within n (placeOf (a .o))) (counts-are (a .d .levels) (rootsOf (a .d)) (treeOf (a .d) (a .s .now)) (a .o) (c .before .before .before .along .ensures) (c .before .before .along2 .ensures) (c .before .along3 .ensures))
 
 sub-k : tie.Need-sub-k
 sub-k c = search needs
 
 along-requires : tie.Need-along-requires
-along-requires c κs = omega (arith, c .before .pre .0 .roots .x-few, c .before .pre .0 .levels)
-
-returns : tie.Need-returns
-returns c = let a = c .before .before .before .args in let d = pos (a .dx) (a .dy) (a .dz) in let t = read d (a .l) (a .s .now) in covered-outside (a .l) d t (a .m) (a .x) (a .y) (a .z) (out-x (counts (a .l) d (a .m)) (a .x) (a .y) (a .z) (omega (arith, c .before .along .ensures, c .if1 .taken)))
+along-requires c κs = let p = c .before .before .before .pre .0 in (p .roots .few ax, omega (arith, p .levels))
 
 along-requires-2 : tie.Need-along-requires-2
-along-requires-2 c κs = omega (arith, c .before .before .before .pre .0 .roots .y-few, c .before .before .before .pre .0 .levels)
-
-returns-2 : tie.Need-returns-2
-returns-2 c = let a = c .before .before .before .before .before .args in let d = pos (a .dx) (a .dy) (a .dz) in let t = read d (a .l) (a .s .now) in covered-outside (a .l) d t (a .m) (a .x) (a .y) (a .z) (out-y (counts (a .l) d (a .m)) (a .x) (a .y) (a .z) (omega (arith, c .before .before .before .along .ensures, c .before .before .if1 .left)) (omega (arith, c .before .along2 .ensures, c .if2 .taken)))
+along-requires-2 c κs = let p = c .before .before .before .before .pre .0 in (p .roots .few ay, omega (arith, p .levels))
 
 along-requires-3 : tie.Need-along-requires-3
-along-requires-3 c κs = omega (arith, c .before .before .before .before .before .pre .0 .roots .z-few, c .before .before .before .before .before .pre .0 .levels)
+along-requires-3 c κs = let p = c .before .before .before .before .before .pre .0 in (p .roots .few az, omega (arith, p .levels))
 
-returns-3 : tie.Need-returns-3
-returns-3 c = let a = c .before .before .before .before .before .before .before .args in let d = pos (a .dx) (a .dy) (a .dz) in let t = read d (a .l) (a .s .now) in covered-outside (a .l) d t (a .m) (a .x) (a .y) (a .z) (out-z (counts (a .l) d (a .m)) (a .x) (a .y) (a .z) (omega (arith, c .before .before .before .before .before .along .ensures, c .before .before .before .before .if1 .left)) (omega (arith, c .before .before .before .along2 .ensures, c .before .before .if2 .left)) (omega (arith, c .before .along3 .ensures, c .if3 .taken)))
+is-inside-requires : tie.Need-is-inside-requires
+is-inside-requires c κs = search needs
+
+returns : tie.Need-returns
+returns c =
+    let a = c .before .before .before .before .before .before .before .before .args in
+    covered-outside (a .d .levels) (rootsOf (a .d)) (treeOf (a .d) (a .s .now)) (a .o) (failed (inside (c .before)) (c .if1 .taken))
 
 descend-requires : tie.Need-descend-requires
-descend-requires c κs = let a = c .before .before .before .before .before .before .before .args in let d = pos (a .dx) (a .dy) (a .dz) in (c .before .before .before .before .before .before .before .pre .0, omega (arith, c .before .before .before .before .before .before .before .pre .1), in-all (counts (a .l) d (a .m)) (a .x) (a .y) (a .z) (omega (arith, c .before .before .before .before .before .along .ensures, c .before .before .before .before .if1 .left)) (omega (arith, c .before .before .before .along2 .ensures, c .before .before .if2 .left)) (omega (arith, c .before .along3 .ensures, c .if3 .left)))
+descend-requires c κs =
+    let s = c .before .before .before .before .before .before .before .before in
+    let a = s .args in
+    (s .pre .0, omega (arith, s .pre .1), within-in (counts (a .d .levels) (rootsOf (a .d)) (a .o .level)) (placeOf (a .o)) (passed (inside (c .before)) (c .if1 .left)))
 
-returns-4 : tie.Need-returns-4
-returns-4 c = let a = c .before .before .before .before .before .before .before .before .args in let d = pos (a .dx) (a .dy) (a .dz) in let t = read d (a .l) (a .s .now) in c .descend .ensures ∙ covered-inside (a .l) d t (a .m) (a .x) (a .y) (a .z) (in-all (counts (a .l) d (a .m)) (a .x) (a .y) (a .z) (omega (arith, c .before .before .before .before .before .before .along .ensures, c .before .before .before .before .before .if1 .left)) (omega (arith, c .before .before .before .before .along2 .ensures, c .before .before .before .if2 .left)) (omega (arith, c .before .before .along3 .ensures, c .before .if3 .left)))
+returns-2 : tie.Need-returns-2
+returns-2 c =
+    let a = c .before .before .before .before .before .before .before .before .before .args in
+    c .descend .ensures ∙ covered-inside (a .d .levels) (rootsOf (a .d)) (treeOf (a .d) (a .s .now)) (a .o) (passed (inside (c .before .before)) (c .before .if1 .left))
 
 pub covering-leaf-spec : {M : Type 1} → statement M
 covering-leaf-spec =
@@ -42,10 +54,9 @@ covering-leaf-spec =
     (tie.spec
     sub-k
     along-requires
-    returns
     along-requires-2
-    returns-2
     along-requires-3
-    returns-3
+    is-inside-requires
+    returns
     descend-requires
-    returns-4)
+    returns-2)
