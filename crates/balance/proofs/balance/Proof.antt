@@ -20,7 +20,7 @@ loop-holds : tie.Need-loop-holds Inv-loop μ-loop
 loop-holds c = let p = c .before .before .pre in balance-start _ _ _ _ (omega (arith, p .1)) (p .0 .octants) (p .2)
 
 sub-j-2 : tie.Need-sub-j-2 Inv-loop μ-loop
-sub-j-2 c = c .loop-test .taken
+sub-j-2 c = omega (arith, c .loop-test .taken)
 
 level-at-requires : tie.Need-level-at-requires Inv-loop μ-loop
 level-at-requires c κs = let p = c .before .before .before .before .before .pre .0 in (p .roots, omega (arith, p .levels, c .before .before .loop .inv .few))
@@ -38,7 +38,7 @@ loop-less : tie.Need-loop-less Inv-loop μ-loop
 loop-less c = omega (arith, c .before .before .before .before .before .loop-test .taken)
 
 loop-again : tie.Need-loop-again Inv-loop μ-loop
-loop-again c = balance-turn _ _ _ (c .before .before .before .before .before .before .loop .j) (c .before .before .before .before .before .loop-test .taken) (c .before .before .before .level-at .ensures) (c .before .before .balance-level .ensures) (c .before .before .before .before .before .before .loop .inv)
+loop-again c = balance-turn _ _ _ (c .before .before .before .before .before .before .loop .j) (omega (arith, c .before .before .before .before .before .loop-test .taken)) (c .before .before .before .level-at .ensures) (c .before .before .balance-level .ensures) (c .before .before .before .before .before .before .loop .inv)
 
 same-length : tie.Need-same-length Inv-loop μ-loop
 same-length c = c .before .loop .inv .long

@@ -33,7 +33,7 @@ leaf-at-requires : tie.Need-leaf-at-requires Inv-loop μ-loop
 leaf-at-requires c κs = c .before .before .before .pre
 
 returns : tie.Need-returns Inv-loop μ-loop
-returns c = any-found (corners (c .before .before .before .before .before)) 8 (c .before .before .before .loop .n) (c .before .before .loop-test .taken) (sym (c .before .leaf-at .ensures) ∙ c .if1 .taken) ∙ eight (leaf (c .before .before .before .before .before))
+returns c = any-found (corners (c .before .before .before .before .before)) 8 (c .before .before .before .loop .n) (omega (arith, c .before .before .loop-test .taken)) (sym (c .before .leaf-at .ensures) ∙ c .if1 .taken) ∙ eight (leaf (c .before .before .before .before .before))
 
 add-n : tie.Need-add-n Inv-loop μ-loop
 add-n c = omega arith
