@@ -3,7 +3,7 @@ use mathlib.Core.Path.{_≡_, refl, sym, ap, subst, _∙_}
 use mathlib.Core.Logic.{_≢_}
 use mathlib.Core.Bool.{Bool, true, false}
 use mathlib.Core.List.{List, [], _∷_, _++_, append-nil}
-use Prim.Native.Nat.{ℕ, zero, suc, _+_, _*_, _≤_}
+use Prim.Native.Nat.{ℕ, _+_, _*_, _≤_}
 use native.Mathlib.Omega.{arith}
 use borrow.Author.Tests.{eqb-true, not-false}
 use lib.Dec.{eqb}
@@ -12,9 +12,8 @@ use lib.ListN.{length, take, drop, replicate, take-append-drop, drop-of-length-l
 use lib.Seq.{length-take-le}
 use Rattle.refusals.specs.Rows.{first, proper}
 use Rattle.refusals.proofs.Rows.{clear, unless-none, unless-some}
-use Rattle.space.specs.Space.{pos, Pos}
 use Rattle.space.proofs.Space.{on-all}
-use Rattle.space.specs.Levels.{off, size, depth}
+use Rattle.space.specs.Levels.{off}
 use Rattle.octants.specs.Judge.{isGraded}
 use Rattle.octants.proofs.Judge.{graded-closes}
 use Rattle.sides.specs.Told.{Taken}

@@ -1,6 +1,6 @@
 use native.Mathlib.Omega.{arith}
 use native.Mathlib.Nat.{mul-le-mul}
-use Prim.Native.Nat.{ℕ, _*_, _≤_, _<_}
+use Prim.Native.Nat.{ℕ, _*_, _≤_}
 use Rattle.space.specs.Space.{ax, ay, az}
 use Rattle.octants.specs.Levels.{Dims}
 use Rattle.leaves.proofs.Walking.{Going, going-start, going-root, going-on, going-done}
