@@ -1,15 +1,14 @@
 //! Which octants and which cells the surface crosses: the answers that the scanner's host owes the library.
 
 use crate::answers::{answers, filled};
+use crate::crossing::Cell;
 use crate::grid::Grid;
 use crate::plan::Plan;
-use crate::surface::Surface;
-use crate::vector::{box_of, wide, Point};
+use crate::surface::{Around, Surface};
+use crate::vector::wide;
 
 /// Questions a thread takes at a time.
 const CHUNK: usize = 2048;
-/// Cells whose part of the surface is looked for together. Cells of a leaf follow one another.
-const TOGETHER: usize = 16;
 
 /// What the surface crosses of a planned domain.
 pub struct Crossed {
@@ -38,20 +37,25 @@ impl Crossed {
     }
 
     /// The crossing table of the grid's cells. A cell lies in the boxes two units wide that it reaches into, so only
-    /// those that reach into a crossed one are held against triangles.
+    /// the triangles that meet one of these are held against it.
     pub fn cells(&self, surface: &Surface, plan: &Plan, grid: &Grid) -> Vec<u8> {
         let boxes = Boxes::new(surface, plan, &self.finest);
-        filled("cells", grid.cells.len(), CHUNK, |first, part| {
-            for (n, answers) in part.chunks_mut(TOGETHER).enumerate() {
-                let first = first + n * TOGETHER;
-                let cells = &grid.cells[first..first + answers.len()];
-                cross_some(surface, grid, &boxes, cells, answers);
-            }
+        answers("cells", grid.cells.len(), CHUNK, |n| {
+            let [a, b, c, d] = grid.cells[n].map(|point| point as usize);
+            let triples = [grid.triples[a], grid.triples[b], grid.triples[c], grid.triples[d]];
+            let mut ready = None;
+            boxes.any_reached(triples, |number| {
+                let (around, cell) = ready.get_or_insert_with(|| {
+                    let points = [grid.points[a], grid.points[b], grid.points[c], grid.points[d]];
+                    (Around::points(&points), Cell::new(points.map(wide)))
+                });
+                surface.around(number).meets(around) && cell.meets(&surface.triangle(number))
+            })
         })
     }
 }
 
-/// Those of a level's octants that the surface crosses; level 0 are boxes two units wide.
+/// Those of a level's octants that the surface crosses.
 fn crossed_boxes(
     surface: &Surface,
     plan: &Plan,
@@ -59,11 +63,16 @@ fn crossed_boxes(
     octants: &[[u32; 3]],
 ) -> Vec<[u32; 3]> {
     let told = answers("octants", octants.len(), CHUNK, |n| {
-        let corner = |by: u32| wide(plan.point(octants[n].map(|n| (n + by) * (2 << level))));
-        surface.crosses_box(corner(0), corner(1))
+        let [low, high] = corners(plan, level, octants[n]);
+        surface.crosses_box(low, high)
     });
     let crossed = octants.iter().zip(told).filter(|(_, told)| *told == 1);
     crossed.map(|(octant, _)| *octant).collect()
+}
+
+/// The corners of an octant's box; level 0 are boxes two units wide.
+fn corners(plan: &Plan, level: u32, octant: [u32; 3]) -> [[f32; 3]; 2] {
+    [0, 1].map(|by| plan.point(octant.map(|n| (n + by) * (2 << level))))
 }
 
 /// The octants of the highest level; of a lattice the boxes two units wide.
@@ -77,65 +86,53 @@ fn children(octant: [u32; 3]) -> impl Iterator<Item = [u32; 3]> {
     (0..8).map(move |bits| std::array::from_fn(|axis| 2 * octant[axis] + (bits >> axis & 1)))
 }
 
-/// Which boxes two units wide the surface crosses.
+/// The triangles that meet each box two units wide.
 struct Boxes {
     counts: [usize; 3],
-    crossed: Vec<bool>,
+    /// For each box the number of its list; 0 is the empty one.
+    lists_of: Vec<u32>,
+    lists: Vec<Vec<u32>>,
 }
 
 impl Boxes {
     fn new(surface: &Surface, plan: &Plan, asked: &[[u32; 3]]) -> Self {
-        let counts = plan.far().map(|far| far.div_ceil(2) as usize);
-        let mut boxes = Boxes { counts, crossed: vec![false; counts.iter().product()] };
-        for octant in crossed_boxes(surface, plan, 0, asked) {
-            let place = boxes.place(octant.map(|n| n as usize));
-            boxes.crossed[place] = true;
-        }
-        boxes
-    }
-
-    fn place(&self, [i, j, k]: [usize; 3]) -> usize {
-        let [nx, ny, _] = self.counts;
-        i + (j + k * ny) * nx
-    }
-
-    /// Whether a cell with these corners reaches into a crossed one.
-    fn reached(&self, corners: [[u32; 3]; 4]) -> bool {
-        let [x, y, z] = [0, 1, 2].map(|axis| {
-            let along = corners.map(|corner| corner[axis] as usize);
-            let [low, high] = along
-                .iter()
-                .fold([along[0]; 2], |[low, high], place| [low.min(*place), high.max(*place)]);
-            low / 2..high.div_ceil(2)
+        let found = filled("octants", asked.len(), CHUNK, |first, part: &mut [Vec<u32>]| {
+            for (list, octant) in part.iter_mut().zip(&asked[first..]) {
+                let [low, high] = corners(plan, 0, *octant);
+                *list = surface.within_box(low, high);
+            }
         });
-        z.into_iter()
-            .any(|k| y.clone().any(|j| x.clone().any(|i| self.crossed[self.place([i, j, k])])))
+        let counts = plan.far().map(|far| far.div_ceil(2) as usize);
+        let mut lists_of = vec![0; counts.iter().product()];
+        let mut lists = vec![Vec::new()];
+        for (octant, list) in asked.iter().zip(found).filter(|(_, list)| !list.is_empty()) {
+            lists_of[place(counts, octant.map(|n| n as usize))] = lists.len() as u32;
+            lists.push(list);
+        }
+        Boxes { counts, lists_of, lists }
+    }
+
+    /// Whether a triangle passes the test that meets a box into which a cell with these corners reaches.
+    fn any_reached(&self, corners: [[u32; 3]; 4], mut test: impl FnMut(usize) -> bool) -> bool {
+        let [x, y, z] = [0, 1, 2].map(|axis| {
+            let [a, b, c, d] = corners.map(|corner| corner[axis] as usize);
+            a.min(b).min(c).min(d) / 2..a.max(b).max(c).max(d).div_ceil(2)
+        });
+        for k in z {
+            for j in y.clone() {
+                for i in x.clone() {
+                    let list = self.lists_of[place(self.counts, [i, j, k])];
+                    if self.lists[list as usize].iter().any(|number| test(*number as usize)) {
+                        return true;
+                    }
+                }
+            }
+        }
+        false
     }
 }
 
-/// The answers of a few cells that follow one another: what of the surface is near them is looked for once.
-fn cross_some(
-    surface: &Surface,
-    grid: &Grid,
-    boxes: &Boxes,
-    cells: &[[u32; 4]],
-    answers: &mut [u8],
-) {
-    let triple = |number: &u32| grid.triples[*number as usize];
-    let point = |number: &u32| wide(grid.points[*number as usize]);
-    let mut waiting: [(usize, [Point; 4]); TOGETHER] = [(0, [[0.0; 3]; 4]); TOGETHER];
-    let mut count = 0;
-    for (n, [a, b, c, d]) in cells.iter().enumerate() {
-        if boxes.reached([triple(a), triple(b), triple(c), triple(d)]) {
-            waiting[count] = (n, [point(a), point(b), point(c), point(d)]);
-            count += 1;
-        }
-    }
-    let waiting = &waiting[..count];
-    let corners = waiting.iter().flat_map(|(_, corners)| corners);
-    let (low, high) = box_of(corners);
-    let branch = surface.branch(low, high);
-    for (n, corners) in waiting {
-        answers[*n] = u8::from(surface.crosses_cell(branch, *corners));
-    }
+/// Where a box stands among so many along each axis.
+fn place([nx, ny, _]: [usize; 3], [i, j, k]: [usize; 3]) -> usize {
+    i + (j + k * ny) * nx
 }

@@ -3,12 +3,16 @@
 //! Two convex bodies are apart exactly when some axis keeps their shadows apart, and a few axes
 //! are enough: face normals and products of edges. Shadows count as apart only if the gap is larger than
 //! any rounding can be, so "apart" is always true; bodies that miss each other by less than about
-//! 10⁻¹⁵ of their size count as crossing, and so may a flat tetrahedron in a triangle's own plane.
+//! 10⁻¹⁴ of their size count as crossing, and so may a flat tetrahedron in a triangle's own plane.
+//! A tetrahedron is asked most: what of a triangle is beyond one of its faces is cut off, and what is left is looked at.
 
 use crate::vector::{cross, dot, sub, Point, Triangle};
 
 /// More than the rounding of a shadow, as a part of the size of what is added up.
 const ROUNDING: f64 = 8.0 * f64::EPSILON;
+
+/// The same for a point that has been cut out of an edge four times.
+const CUT_ROUNDING: f64 = 32.0 * f64::EPSILON;
 
 /// Whether a triangle meets the box from `low` to `high`.
 pub fn meets_box(triangle: &Triangle, low: Point, high: Point) -> bool {
@@ -41,58 +45,147 @@ pub struct Cell {
     /// Its first corner, from where all is seen.
     from: Point,
     corners: [Point; 4],
-    edges: [Point; 6],
     faces: [Face; 4],
-    /// Whether no face's shadow is as flat as rounding.
+    /// The largest coordinate of a corner.
+    reach: f64,
+    /// Whether it is thicker across each face than rounding.
     solid: bool,
 }
 
-/// The direction across a face, and the cell's shadow on it.
+/// A face's plane, and how far a point is behind it: `across · point − level`.
+#[derive(Clone, Copy)]
 struct Face {
     across: Point,
-    low: f64,
-    high: f64,
+    level: f64,
+    /// The sum of the direction's absolute coordinates.
+    size: f64,
 }
+
+/// The corners of what is left of a triangle: a cut adds one at most.
+const MOST_CORNERS: usize = 7;
 
 impl Cell {
     pub fn new(corners: [Point; 4]) -> Self {
         let from = corners[0];
         let corners = corners.map(|corner| sub(corner, from));
         let [a, b, c, d] = corners;
-        let edges = [sub(b, a), sub(c, a), sub(d, a), sub(c, b), sub(d, b), sub(d, c)];
-        let [ab, ac, ad, bc, bd, _] = edges;
-        let normals = [cross(ab, ac), cross(ab, ad), cross(ac, ad), cross(bc, bd)];
-        let faces = normals.map(|across| {
-            let (low, high) = shadow(across, &corners);
-            Face { across, low, high }
-        });
-        let thick = |face: &Face| face.high - face.low > ROUNDING * farthest(face.across, &corners);
-        let solid = faces.iter().all(thick);
-        Cell { from, corners, edges, faces, solid }
+        let reach = largest_coordinate(&corners);
+        let faces = [(a, b, c, d), (a, d, b, c), (a, c, d, b), (b, d, c, a)];
+        let faces = faces.map(|(p, q, r, opposite)| Face::new(p, q, r, opposite));
+        let opposites = [d, c, b, a];
+        let thick = |(face, opposite): (&Face, Point)| {
+            dot(face.across, opposite) - face.level > 2.0 * face.slack(reach)
+        };
+        let solid = faces.iter().zip(opposites).all(thick);
+        Cell { from, corners, faces, reach, solid }
     }
 
-    /// Whether a triangle meets it. Most questions are settled at its faces: all corners are beyond one of them, or
-    /// a corner is behind all.
-    pub fn meets(&self, triangle: &Triangle) -> bool {
-        let corners = triangle.map(|corner| sub(corner, self.from));
-        if self.faces.iter().any(|face| self.keeps_out(face, &corners)) {
-            return false;
+    /// Whether a triangle meets it. Mostly its faces tell: all corners are beyond one of them, or a corner is behind
+    /// all; else what is beyond a face is cut off, and something is left or not. The planes stand off by more than
+    /// rounding, so that nothing counts as beyond that is not.
+    pub fn meets(&self, [a, b, c]: &Triangle) -> bool {
+        let seen = [sub(*a, self.from), sub(*b, self.from), sub(*c, self.from)];
+        if !self.solid {
+            return self.meets_flat(&seen);
         }
-        let apart = |direction: Point| shadows_apart(direction, &corners, &self.corners);
-        let edges = edges_of(&corners);
-        (self.solid && corners.iter().any(|corner| self.holds(*corner)))
-            || !(apart(cross(edges[0], edges[1])) || products(&edges, &self.edges).any(apart))
+        let reach = largest_coordinate(&seen).max(self.reach);
+        let mut behind_all = [true; 3];
+        for face in &self.faces {
+            let slack = face.slack(reach);
+            let behind = seen.map(|corner| face.depth(corner) + slack >= 0.0);
+            if behind == [false; 3] {
+                return false;
+            }
+            behind_all = std::array::from_fn(|k| behind_all[k] & behind[k]);
+        }
+        behind_all != [false; 3] || self.something_left(seen, reach)
     }
 
-    fn keeps_out(&self, face: &Face, corners: &Triangle) -> bool {
-        let (low, high) = shadow(face.across, corners);
-        let gap = (face.low - high).max(low - face.high);
-        gap > 0.0 && gap > ROUNDING * largest(face.across, corners, &self.corners)
+    fn something_left(&self, seen: Triangle, reach: f64) -> bool {
+        let mut left = Polygon::new(seen);
+        self.faces.iter().all(|face| {
+            left = left.cut(face, face.slack(reach));
+            left.count > 0
+        })
     }
 
-    fn holds(&self, point: Point) -> bool {
-        self.faces.iter().all(|face| (face.low..=face.high).contains(&dot(face.across, point)))
+    /// The same by shadows, for a cell whose faces have no sure direction.
+    fn meets_flat(&self, corners: &Triangle) -> bool {
+        let [a, b, c, d] = self.corners;
+        let edges = [sub(b, a), sub(c, a), sub(d, a), sub(c, b), sub(d, b), sub(d, c)];
+        let apart = |direction: Point| shadows_apart(direction, corners, &self.corners);
+        let own = edges_of(corners);
+        !(self.faces.iter().any(|face| apart(face.across))
+            || apart(cross(own[0], own[1]))
+            || products(&own, &edges).any(apart))
     }
+}
+
+impl Face {
+    /// The face through three points, seen from the fourth.
+    fn new(p: Point, q: Point, r: Point, opposite: Point) -> Self {
+        let normal = cross(sub(q, p), sub(r, p));
+        let way = if dot(normal, sub(opposite, p)) < 0.0 { -1.0 } else { 1.0 };
+        let across = [way * normal[0], way * normal[1], way * normal[2]];
+        let size = across[0].abs() + across[1].abs() + across[2].abs();
+        Face { across, level: dot(across, p), size }
+    }
+
+    /// More than rounding makes of a point's distance after all cuts, if no coordinate is beyond the reach.
+    fn slack(&self, reach: f64) -> f64 {
+        CUT_ROUNDING * self.size * reach
+    }
+
+    fn depth(&self, point: Point) -> f64 {
+        dot(self.across, point) - self.level
+    }
+}
+
+/// What is left of a triangle.
+struct Polygon {
+    corners: [Point; MOST_CORNERS],
+    count: usize,
+}
+
+impl Polygon {
+    fn new(triangle: Triangle) -> Self {
+        let mut corners = [[0.0; 3]; MOST_CORNERS];
+        corners[..3].copy_from_slice(&triangle);
+        Polygon { corners, count: 3 }
+    }
+
+    /// Without what is beyond the face's plane, moved outwards by the slack.
+    fn cut(&self, face: &Face, slack: f64) -> Self {
+        let mut left = Polygon { corners: [[0.0; 3]; MOST_CORNERS], count: 0 };
+        let own = &self.corners[..self.count];
+        let mut before = own[own.len() - 1];
+        let mut depth = face.depth(before) + slack;
+        for point in own {
+            let next = face.depth(*point) + slack;
+            if (depth < 0.0) != (next < 0.0) {
+                let part = depth / (depth - next);
+                left.add(std::array::from_fn(|k| before[k] + part * (point[k] - before[k])));
+            }
+            if next >= 0.0 {
+                left.add(*point);
+            }
+            (before, depth) = (*point, next);
+        }
+        left
+    }
+
+    /// A convex polygon has one corner more after a cut, at most. Where rounding gives another one, it is let go:
+    /// something is left in any case.
+    fn add(&mut self, corner: Point) {
+        if self.count < MOST_CORNERS {
+            self.corners[self.count] = corner;
+            self.count += 1;
+        }
+    }
+}
+
+fn largest_coordinate(points: &[Point]) -> f64 {
+    points.as_flattened().iter().fold(0.0, |most, x| x.abs().max(most))
 }
 
 const UNITS: [Point; 3] = [[1.0, 0.0, 0.0], [0.0, 1.0, 0.0], [0.0, 0.0, 1.0]];
@@ -248,6 +341,21 @@ mod tests {
             assert!(meets_tetrahedron(&sized(flat(0.0)), &cell));
             assert!(!meets_tetrahedron(&sized(flat(-HAIR)), &cell));
         }
+    }
+
+    #[test]
+    fn cutting_and_shadows_agree() {
+        let mut random = crate::testing::Random::new(9);
+        let mut met = 0;
+        for _ in 0..20_000 {
+            let cell = Cell::new(std::array::from_fn(|_| random.point(0.0, 1.0)));
+            let triangle: Triangle = std::array::from_fn(|_| random.point(-0.5, 1.5));
+            let seen = triangle.map(|corner| sub(corner, cell.from));
+            assert!(cell.solid);
+            assert_eq!(cell.meets(&triangle), cell.meets_flat(&seen));
+            met += usize::from(cell.meets(&triangle));
+        }
+        assert!((4_000..16_000).contains(&met), "{met}");
     }
 
     /// Random bodies against a search for a common point: whenever one is found the test must agree.

@@ -51,12 +51,12 @@ fn mix(state: &mut [u32; 8], block: &[u8]) {
     for (word, round) in schedule(block).into_iter().zip(ROUNDS) {
         let choice = (e & f) ^ (!e & g);
         let turned = e.rotate_right(6) ^ e.rotate_right(11) ^ e.rotate_right(25);
-        let first = [turned, choice, round, word].into_iter().fold(h, u32::wrapping_add);
+        let added = word.wrapping_add(round);
+        let first = h.wrapping_add(turned).wrapping_add(choice).wrapping_add(added);
         let most = (a & b) ^ (a & c) ^ (b & c);
-        let second =
-            (a.rotate_right(2) ^ a.rotate_right(13) ^ a.rotate_right(22)).wrapping_add(most);
+        let turned = a.rotate_right(2) ^ a.rotate_right(13) ^ a.rotate_right(22);
         (h, g, f, e) = (g, f, e, d.wrapping_add(first));
-        (d, c, b, a) = (c, b, a, first.wrapping_add(second));
+        (d, c, b, a) = (c, b, a, first.wrapping_add(turned).wrapping_add(most));
     }
     for (word, added) in state.iter_mut().zip([a, b, c, d, e, f, g, h]) {
         *word = word.wrapping_add(added);
@@ -73,8 +73,7 @@ fn schedule(block: &[u8]) -> [u32; 64] {
         let (near, far) = (words[n - 2], words[n - 15]);
         let near = near.rotate_right(17) ^ near.rotate_right(19) ^ near >> 10;
         let far = far.rotate_right(7) ^ far.rotate_right(18) ^ far >> 3;
-        let parts = [words[n - 16], far, words[n - 7], near];
-        words[n] = parts.into_iter().fold(0, u32::wrapping_add);
+        words[n] = near.wrapping_add(words[n - 7]).wrapping_add(far).wrapping_add(words[n - 16]);
     }
     words
 }

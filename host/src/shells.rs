@@ -10,8 +10,8 @@ use crate::corners::Corners;
 use crate::crossing::meets_triangle;
 use crate::edges::Edges;
 use crate::ray::pierced;
-use crate::surface::Surface;
-use crate::vector::{box_of, cone, cross, length, middle, sub, wide, Point, Triangle};
+use crate::surface::{Around, Surface};
+use crate::vector::{cone, cross, length, middle, sub, wide, Point, Triangle};
 
 /// What a closed surface consists of.
 #[derive(Clone, Debug, PartialEq)]
@@ -177,8 +177,7 @@ fn meeting(surface: &Surface, corners: &Corners) -> Option<(Point, usize)> {
     let count = surface.facets().len();
     let table = answers("overlaps", count, CHUNK, |own| {
         let triangle = shrunk(&surface.triangle(own));
-        let (low, high) = box_of(&triangle);
-        surface.any_near(surface.all(), low, high, |other| {
+        surface.any_near(Around::outwards(&triangle), |other| {
             other > own
                 && !corners.of[other].iter().any(|corner| corners.of[own].contains(corner))
                 && meets_triangle(&triangle, &shrunk(&surface.triangle(other)))

@@ -1,7 +1,7 @@
 //! A part's surface: its triangles in a tree of boxes, so that only those near a place are looked at.
 
 use crate::answers::processors;
-use crate::crossing::{meets_box, Cell};
+use crate::crossing::meets_box;
 use crate::ray::pierced;
 use crate::stl::Facet;
 use crate::vector::{box_of, wide, Point, Triangle};
@@ -19,20 +19,12 @@ pub struct Surface {
 }
 
 struct Node {
-    low: [f32; 3],
-    high: [f32; 3],
+    around: Around,
     /// Nodes of the tree under it, itself included.
     size: u32,
     /// Of a leaf: its first triangle and how many it has. Else the count is 0.
     first: u32,
     count: u32,
-}
-
-/// A node of the tree with all under it.
-#[derive(Clone, Copy)]
-pub struct Branch {
-    first: usize,
-    end: usize,
 }
 
 impl Surface {
@@ -54,6 +46,11 @@ impl Surface {
         [wide(a), wide(b), wide(c)]
     }
 
+    /// The box of a triangle.
+    pub fn around(&self, number: usize) -> Around {
+        Around::points(&self.facets[number])
+    }
+
     /// How often the closed surface winds around a point: 0 outside, whatever way it is turned.
     pub fn winding(&self, point: Point) -> i64 {
         let mut turns = 0;
@@ -62,67 +59,43 @@ impl Surface {
     }
 
     /// Whether the surface crosses the closed box.
-    pub fn crosses_box(&self, low: Point, high: Point) -> bool {
-        let test = |number| meets_box(&self.triangle(number), low, high);
-        self.any_near(self.all(), low, high, test)
+    pub fn crosses_box(&self, low: [f32; 3], high: [f32; 3]) -> bool {
+        let (wide_low, wide_high) = (wide(low), wide(high));
+        self.any_near(Around { low, high }, |number| {
+            meets_box(&self.triangle(number), wide_low, wide_high)
+        })
     }
 
-    /// Whether the surface crosses the closed tetrahedron, of which only this branch may be near.
-    pub fn crosses_cell(&self, branch: Branch, corners: [Point; 4]) -> bool {
-        let (low, high) = box_of(&corners);
-        let mut cell = None;
-        self.any_near(branch, low, high, |number| {
-            let triangle = self.triangle(number);
-            boxes_meet(&triangle, low, high)
-                && cell.get_or_insert_with(|| Cell::new(corners)).meets(&triangle)
-        })
+    /// The triangles that meet the closed box.
+    pub fn within_box(&self, low: [f32; 3], high: [f32; 3]) -> Vec<u32> {
+        let (around, mut found) = (Around { low, high }, Vec::new());
+        let (wide_low, wide_high) = (wide(low), wide(high));
+        self.any_near(around, |number| {
+            if self.around(number).meets(&around)
+                && meets_box(&self.triangle(number), wide_low, wide_high)
+            {
+                found.push(number as u32);
+            }
+            false
+        });
+        found
     }
 
     /// The triangles that a ray from a point along an axis may meet.
     pub fn near_ray(&self, from: Point, axis: usize, mut found: impl FnMut(usize)) {
-        let mut high = from;
-        high[axis] = f64::INFINITY;
-        self.any_near(self.all(), from, high, |number| {
+        let mut around = Around::outwards(&[from]);
+        around.high[axis] = f32::INFINITY;
+        self.any_near(around, |number| {
             found(number);
             false
         });
     }
 
-    /// The whole tree.
-    pub fn all(&self) -> Branch {
-        Branch { first: 0, end: self.nodes.len() }
-    }
-
-    /// The least branch with all that is near a box: empty if nothing is.
-    pub fn branch(&self, low: Point, high: Point) -> Branch {
-        let mut first = 0;
-        while let Some(node) = self.nodes.get(first) {
-            let end = first + node.size as usize;
-            let left = first + 1;
-            let near = |child: usize| self.nodes[child].meets(low, high);
-            match node.count > 0 || near(left) {
-                true if node.count > 0 || near(left + self.nodes[left].size as usize) => {
-                    return Branch { first, end };
-                }
-                true => first = left,
-                false => first = left + self.nodes[left].size as usize,
-            }
-        }
-        self.all()
-    }
-
-    /// Whether some triangle in a leaf of the branch that meets the box passes the test.
-    pub fn any_near(
-        &self,
-        branch: Branch,
-        low: Point,
-        high: Point,
-        mut test: impl FnMut(usize) -> bool,
-    ) -> bool {
-        let mut at = branch.first;
-        while at < branch.end {
-            let node = &self.nodes[at];
-            if !node.meets(low, high) {
+    /// Whether some triangle in a leaf that meets the box passes the test.
+    pub fn any_near(&self, around: Around, mut test: impl FnMut(usize) -> bool) -> bool {
+        let mut at = 0;
+        while let Some(node) = self.nodes.get(at) {
+            if !node.around.meets(&around) {
                 at += node.size as usize;
                 continue;
             }
@@ -136,27 +109,51 @@ impl Surface {
     }
 }
 
-impl Node {
-    fn meets(&self, low: Point, high: Point) -> bool {
-        (0..3).all(|k| f64::from(self.low[k]) <= high[k] && low[k] <= f64::from(self.high[k]))
-    }
+/// A closed box.
+#[derive(Clone, Copy)]
+pub struct Around {
+    low: [f32; 3],
+    high: [f32; 3],
 }
 
-/// Whether a triangle's box meets this one.
-fn boxes_meet([a, b, c]: &Triangle, low: Point, high: Point) -> bool {
-    (0..3).all(|k| a[k].min(b[k]).min(c[k]) <= high[k] && low[k] <= a[k].max(b[k]).max(c[k]))
+impl Around {
+    /// The least box around points.
+    pub fn points<'a>(points: impl IntoIterator<Item = &'a [f32; 3]>) -> Self {
+        let (mut low, mut high) = ([f32::INFINITY; 3], [f32::NEG_INFINITY; 3]);
+        for point in points {
+            for axis in 0..3 {
+                low[axis] = if point[axis] < low[axis] { point[axis] } else { low[axis] };
+                high[axis] = if point[axis] > high[axis] { point[axis] } else { high[axis] };
+            }
+        }
+        Around { low, high }
+    }
+
+    /// A box that holds points in f64: it may be a little larger.
+    pub fn outwards(points: &[Point]) -> Self {
+        let (low, high) = box_of(points);
+        Around {
+            low: low.map(|x| (x as f32).next_down()),
+            high: high.map(|x| (x as f32).next_up()),
+        }
+    }
+
+    pub fn meets(&self, other: &Around) -> bool {
+        let apart = |k: usize| (self.low[k] > other.high[k]) | (other.low[k] > self.high[k]);
+        !(apart(0) | apart(1) | apart(2))
+    }
 }
 
 /// Adds the tree over these triangles, which start at `first` of all; so many threads may work on it.
 fn grow(part: &mut [Facet], first: usize, threads: usize, nodes: &mut Vec<Node>) {
-    let (low, high) = around(part);
+    let around = Around::points(part.as_flattened());
     let own = nodes.len();
     let count = if part.len() <= LEAF { part.len() as u32 } else { 0 };
-    nodes.push(Node { low, high, size: 1, first: first as u32, count });
+    nodes.push(Node { around, size: 1, first: first as u32, count });
     if count > 0 {
         return;
     }
-    let axis = longest(low, high);
+    let axis = longest(around);
     let half = part.len() / 2;
     part.select_nth_unstable_by(half, |a, b| along(a, axis).total_cmp(&along(b, axis)));
     let (left, right) = part.split_at_mut(half);
@@ -174,15 +171,7 @@ fn grow(part: &mut [Facet], first: usize, threads: usize, nodes: &mut Vec<Node>)
     nodes[own].size = (nodes.len() - own) as u32;
 }
 
-fn around(part: &[Facet]) -> ([f32; 3], [f32; 3]) {
-    let ends = ([f32::INFINITY; 3], [f32::NEG_INFINITY; 3]);
-    part.as_flattened().iter().fold(ends, |(low, high), corner| {
-        let lower = std::array::from_fn(|k| low[k].min(corner[k]));
-        (lower, std::array::from_fn(|k| high[k].max(corner[k])))
-    })
-}
-
-fn longest(low: [f32; 3], high: [f32; 3]) -> usize {
+fn longest(Around { low, high }: Around) -> usize {
     let wide = |axis: &usize| high[*axis] - low[*axis];
     (0..3).max_by(|a, b| wide(a).total_cmp(&wide(b))).unwrap_or(0)
 }
@@ -196,37 +185,29 @@ mod tests {
     use super::*;
     use crate::testing::{solid_angles, tetrahedron, turned, Random};
 
-    fn near<const N: usize>(random: &mut Random, at: Point) -> [Point; N] {
+    fn near<const N: usize>(random: &mut Random) -> [[f32; 3]; N] {
+        let at = random.point(0.0, 10.0);
         std::array::from_fn(|_| {
             let by = random.point(-0.5, 0.5);
-            std::array::from_fn(|k| at[k] + by[k])
+            std::array::from_fn(|k| (at[k] + by[k]) as f32)
         })
     }
 
     #[test]
     fn the_tree_answers_as_all_triangles_do() {
         let mut random = Random::new(3);
-        let soup: Vec<Facet> = (0..500)
-            .map(|_| {
-                let at = random.point(0.0, 10.0);
-                near(&mut random, at).map(|corner| corner.map(|x| x as f32))
-            })
-            .collect();
+        let soup: Vec<Facet> = (0..500).map(|_| near(&mut random)).collect();
         let surface = Surface::new(soup);
         let all: Vec<Triangle> = (0..500).map(|n| surface.triangle(n)).collect();
         let mut crossed = 0;
         for _ in 0..2_000 {
-            let at = random.point(0.0, 10.0);
-            let corners: [Point; 4] = near(&mut random, at);
-            let (low, high) = box_of(&corners);
-            let cell = Cell::new(corners);
-            let by_box = all.iter().any(|triangle| meets_box(triangle, low, high));
-            let by_cell = all.iter().any(|triangle| cell.meets(triangle));
-            assert_eq!(surface.crosses_box(low, high), by_box);
-            for branch in [surface.all(), surface.branch(low, high)] {
-                assert_eq!(surface.crosses_cell(branch, corners), by_cell);
-            }
-            crossed += usize::from(by_cell);
+            let around = Around::points(&near::<4>(&mut random));
+            let (low, high) = (wide(around.low), wide(around.high));
+            let met = (0..500).filter(|n| meets_box(&all[*n as usize], low, high));
+            let met: Vec<u32> = met.collect();
+            assert_eq!(surface.within_box(around.low, around.high), met);
+            assert_eq!(surface.crosses_box(around.low, around.high), !met.is_empty());
+            crossed += usize::from(!met.is_empty());
         }
         assert!((200..1_800).contains(&crossed));
     }

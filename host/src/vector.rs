@@ -36,7 +36,7 @@ pub fn cone(from: Point, triangle: &Triangle) -> f64 {
 }
 
 /// The least box around points.
-pub fn box_of<'a>(points: impl IntoIterator<Item = &'a Point>) -> (Point, Point) {
+pub fn box_of(points: &[Point]) -> (Point, Point) {
     let mut low = [f64::INFINITY; 3];
     let mut high = [f64::NEG_INFINITY; 3];
     for point in points {

@@ -136,7 +136,8 @@ fn one_probe_for_a_group_is_as_good_as_one_for_each_cell() {
     let grid = plan.grid(&[]).unwrap();
     let whole = Mesh { points: grid.points.clone(), cells: grid.cells.clone() };
     let deserved = centroids(&whole).zip(&grid.cells).filter(|(centroid, cell)| {
-        let crossed = surface.crosses_cell(surface.all(), corners(&whole, cell));
+        let cell = Cell::new(corners(&whole, cell));
+        let crossed = (0..surface.facets().len()).any(|n| cell.meets(&surface.triangle(n)));
         crossed || surface.winding(*centroid) != 0
     });
     let covered = covered(&part, 2.0, 0);
