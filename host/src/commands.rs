@@ -72,7 +72,7 @@ fn tell_grid(report: &mut Report, covered: &Covered) {
 }
 
 fn tell_mesh(report: &mut Report, covered: &Covered, source: &Source, crust: bool) {
-    let volume = covered.mesh.volume();
+    let volume = covered.volume;
     let compared = match source.volume_inside() {
         _ if crust => ", of the cells that the surface touches".to_string(),
         Ok(part) => format!(

@@ -39,6 +39,8 @@ pub struct Covered {
     pub cells: Cells,
     pub dropped: u64,
     pub pieces: u64,
+    /// The mesh's volume.
+    pub volume: f64,
 }
 
 /// Octants of levels 1 and above.
@@ -103,7 +105,7 @@ impl From<Refusal> for CoverError {
 /// let request = Request { cell: 1.0, levels: 1, ..Request::default() };
 /// let covered = cover(&part, request).unwrap();
 /// assert_eq!(covered.pieces, 1);
-/// assert!(covered.mesh.volume() > 64.0 / 6.0);
+/// assert!(covered.volume > 64.0 / 6.0);
 /// ```
 pub fn cover(part: &Part, request: Request) -> Result<Covered, CoverError> {
     if !request.crust && !part.openings.edges.is_empty() {
@@ -125,6 +127,7 @@ pub fn cover(part: &Part, request: Request) -> Result<Covered, CoverError> {
     }
     Ok(Covered {
         pieces: staged("pieces", || kept.mesh.components())?.count,
+        volume: kept.mesh.volume(),
         mesh: kept.mesh,
         dropped: kept.dropped,
         plan,

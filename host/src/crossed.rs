@@ -47,7 +47,8 @@ impl Crossed {
             boxes.any_reached(triples, |number| {
                 let (around, cell) = ready.get_or_insert_with(|| {
                     let points = [grid.points[a], grid.points[b], grid.points[c], grid.points[d]];
-                    (Around::points(&points), Cell::new(points.map(wide)))
+                    let [a, b, c, d] = points;
+                    (Around::points(&points), Cell::new([wide(a), wide(b), wide(c), wide(d)]))
                 });
                 surface.around(number).meets(around) && cell.meets(&surface.triangle(number))
             })
@@ -114,10 +115,13 @@ impl Boxes {
 
     /// Whether a triangle passes the test that meets a box into which a cell with these corners reaches.
     fn any_reached(&self, corners: [[u32; 3]; 4], mut test: impl FnMut(usize) -> bool) -> bool {
-        let [x, y, z] = [0, 1, 2].map(|axis| {
-            let [a, b, c, d] = corners.map(|corner| corner[axis] as usize);
-            a.min(b).min(c).min(d) / 2..a.max(b).max(c).max(d).div_ceil(2)
-        });
+        let [a, b, c, d] = corners;
+        let along = |axis: usize| {
+            let low = a[axis].min(b[axis]).min(c[axis]).min(d[axis]);
+            let high = a[axis].max(b[axis]).max(c[axis]).max(d[axis]);
+            low as usize / 2..high.div_ceil(2) as usize
+        };
+        let (x, y, z) = (along(0), along(1), along(2));
         for k in z {
             for j in y.clone() {
                 for i in x.clone() {

@@ -16,6 +16,10 @@ const CUT_ROUNDING: f64 = 32.0 * f64::EPSILON;
 
 /// Whether a triangle meets the box from `low` to `high`.
 pub fn meets_box(triangle: &Triangle, low: Point, high: Point) -> bool {
+    let holds = |point: &Point| (0..3).all(|k| low[k] <= point[k] && point[k] <= high[k]);
+    if triangle.iter().any(holds) {
+        return true;
+    }
     let middle: Point = std::array::from_fn(|axis| 0.5 * (low[axis] + high[axis]));
     let reach: Point = std::array::from_fn(|axis| 0.5 * (high[axis] - low[axis]));
     let corners = triangle.map(|corner| sub(corner, middle));
@@ -92,11 +96,15 @@ impl Cell {
         let mut behind_all = [true; 3];
         for face in &self.faces {
             let slack = face.slack(reach);
-            let behind = seen.map(|corner| face.depth(corner) + slack >= 0.0);
-            if behind == [false; 3] {
+            let mut none = true;
+            for (all, corner) in behind_all.iter_mut().zip(&seen) {
+                let behind = face.depth(*corner) + slack >= 0.0;
+                *all &= behind;
+                none &= !behind;
+            }
+            if none {
                 return false;
             }
-            behind_all = std::array::from_fn(|k| behind_all[k] & behind[k]);
         }
         behind_all != [false; 3] || self.something_left(seen, reach)
     }

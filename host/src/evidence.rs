@@ -19,21 +19,12 @@ pub fn beside(mesh: &Path) -> PathBuf {
 
 /// How the mesh in these bytes came about.
 pub fn of_cover(order: &CoverOrder, source: &Source, covered: &Covered, file: &[u8]) -> Json {
-    let Covered { plan, octants, cells, mesh, .. } = covered;
+    let Covered { octants, cells, .. } = covered;
     Json::object([
         ("tool", format!("sporeferry {VERSION}").into()),
         ("options", options(order)),
         ("part", of_part(source)),
-        (
-            "plan",
-            Json::object([
-                ("origin", Json::list(plan.origin())),
-                ("unit", plan.half().into()),
-                ("dims", Json::list(plan.dims())),
-                ("octants", plan.octants().into()),
-                ("steps", Json::list([covered.steps.least, covered.steps.greatest])),
-            ]),
-        ),
+        ("plan", of_plan(covered)),
         (
             "octants",
             Json::object([
@@ -51,19 +42,30 @@ pub fn of_cover(order: &CoverOrder, source: &Source, covered: &Covered, file: &[
                 ("inside", cells.inside.into()),
             ]),
         ),
-        (
-            "mesh",
-            Json::object([
-                ("file", named(&order.output)),
-                ("bytes", file.len().into()),
-                ("sha256", checksum(file).into()),
-                ("points", mesh.points.len().into()),
-                ("cells", mesh.cells.len().into()),
-                ("dropped", covered.dropped.into()),
-                ("pieces", covered.pieces.into()),
-                ("volume", mesh.volume().into()),
-            ]),
-        ),
+        ("mesh", of_mesh(&order.output, covered, file)),
+    ])
+}
+
+fn of_plan(Covered { plan, steps, .. }: &Covered) -> Json {
+    Json::object([
+        ("origin", Json::list(plan.origin())),
+        ("unit", plan.half().into()),
+        ("dims", Json::list(plan.dims())),
+        ("octants", plan.octants().into()),
+        ("steps", Json::list([steps.least, steps.greatest])),
+    ])
+}
+
+fn of_mesh(path: &Path, covered: &Covered, file: &[u8]) -> Json {
+    Json::object([
+        ("file", named(path)),
+        ("bytes", file.len().into()),
+        ("sha256", checksum(file).into()),
+        ("points", covered.mesh.points.len().into()),
+        ("cells", covered.mesh.cells.len().into()),
+        ("dropped", covered.dropped.into()),
+        ("pieces", covered.pieces.into()),
+        ("volume", covered.volume.into()),
     ])
 }
 

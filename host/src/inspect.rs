@@ -34,7 +34,6 @@ pub fn info(order: &InfoOrder) -> Result<Told, String> {
     tell_quality(&mut report, &quality);
     report.line("boundary", boundary_in_words(&boundary));
     let evidence = evidence::check(path, &bytes);
-    let agrees = evidence.as_ref().map(Result::is_ok);
     if let Some(Ok(told)) = &evidence {
         report.line("evidence", told);
     }
@@ -47,11 +46,10 @@ pub fn info(order: &InfoOrder) -> Result<Told, String> {
         ("pieces", pieces.into()),
         ("quality", of_quality(&quality)),
         ("boundary", of_boundary(&boundary)),
-        ("evidence_agrees", agrees.into()),
+        ("evidence_agrees", evidence.as_ref().map(Result::is_ok).into()),
     ]);
-    let text = report.or_json(order.json, &facts);
-    let failure = evidence.and_then(Result::err).map(|why| about(path)(why));
-    Ok(Told { text, failure, ..Told::default() })
+    let failure = evidence.and_then(Result::err).map(about(path));
+    Ok(Told { text: report.or_json(order.json, &facts), failure, ..Told::default() })
 }
 
 fn box_of(mesh: &Mesh) -> String {
