@@ -7,7 +7,8 @@
 //! is proved; these bindings and the modules below are ordinary Rust, tested and not proved.
 //!
 //! [`lent`] has the same functions over tables of the caller's own. [`cover::cover`] goes the whole way from a
-//! part's surface to its mesh.
+//! part's surface to its mesh; [`shells`] tells what a closed surface encloses, [`advice`] which cell sizes a part
+//! takes, [`quality`] how good a mesh is.
 //!
 //! ```
 //! use sporeferry::{Bounds, Plan};

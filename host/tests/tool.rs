@@ -9,6 +9,7 @@ use running::{does, fails, folder_with, run, run_command, told, TOOL};
 use sporeferry::json::Json;
 use sporeferry::{stl, Mesh};
 use std::fs;
+use std::os::unix::process::ExitStatusExt;
 use std::process::Command;
 
 fn ball() -> Vec<u8> {
@@ -355,21 +356,28 @@ fn a_file_that_fails_half_way_leaves_nothing_behind() {
     assert_eq!(fs::read(folder.0.join("old.mesh")).unwrap(), b"kept as it was");
 }
 
-/// Signals at many moments of a run, most of them while it writes: what is there afterwards is whole or not there.
+/// A signal as soon as a temporary file is seen: what is there afterwards is whole or not there.
 #[test]
 fn a_signal_leaves_no_temporary_file() {
     let folder = folder_with("signal", &[("ball.stl", &ball())]);
-    does(&folder, "cover ball.stl --cell 0.5 -o whole.mesh");
-    let whole = fs::read(folder.0.join("whole.mesh")).unwrap();
-    for (n, signal) in ["INT", "TERM", "HUP"].iter().cycle().take(24).enumerate() {
-        let words = format!("{TOOL} cover ball.stl --cell 0.5 -o a.mesh & sleep 0.{:02}; kill -s {signal} $!; wait $!", n * 2);
-        run_command(&folder, Command::new("bash").args(["-mc", &words]));
-        assert!(!folder.names().iter().any(|name| name.contains(".tmp")), "{:?}", folder.names());
+    let began = || folder.names().iter().any(|name| name.ends_with(".tmp"));
+    let mut caught = 0;
+    for signal in ["INT", "TERM", "HUP"].into_iter().cycle().take(12) {
+        let mut tool = Command::new(TOOL);
+        tool.args("cover ball.stl --cell 0.4 --quiet -o a.mesh".split_whitespace());
+        let mut tool = tool.current_dir(&folder.0).spawn().unwrap();
+        while tool.try_wait().unwrap().is_none() && !began() {}
+        let process = tool.id().to_string();
+        let _ = Command::new("/bin/kill").args(["-s", signal, &process]).output();
+        let status = tool.wait().unwrap();
+        caught += usize::from(status.signal().is_some());
+        assert!(!began(), "{:?}", folder.names());
         if let Ok(found) = fs::read(folder.0.join("a.mesh")) {
-            assert!(found == whole);
-            fs::remove_file(folder.0.join("a.mesh")).unwrap();
+            assert!(Mesh::from_bytes(&found).is_ok());
+            assert!(folder.names().contains(&"a.mesh.json".to_string()));
         }
     }
+    assert!(caught > 0);
 }
 
 #[cfg(target_os = "linux")]
