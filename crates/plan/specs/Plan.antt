@@ -7,7 +7,7 @@ use lib.Dec.{leb, ltb, eqb}
 use lib.Ieee.{Float, binary32, toBits, neg, lt}
 use lib.Ieee.Scale.{finite}
 use lib.Ieee.Positive.{positive}
-use Rattle.float32.specs.Operations.{_+f_, _-f_, _*f_, _/f_, whole32, half32, two32}
+use Rattle.float32.specs.Operations.{zero32, _+f_, _-f_, _*f_, _/f_, whole32, half32, two32}
 use Rattle.float32.specs.Ceiling.{ceilTo}
 use Rattle.space.specs.Space as space
 use Rattle.space.specs.Space.{pos}
@@ -135,6 +135,12 @@ planOf b c levels =
 abbrev pub numberOf : Planned → ℕ
 numberOf (Ready p) = 0
 numberOf (Refused n) = n
+
+-- the plan, all of whose numbers are 0 where it is refused
+abbrev pub valuesOf : Planned → Plan
+valuesOf (Ready p) = p
+valuesOf (Refused n) =
+    record { ox = zero32; oy = zero32; oz = zero32; half = zero32; nx = 0; ny = 0; nz = 0; levels = 0; octants = 0 }
 
 -- the refusal's number handed up, else what is made of the plan
 abbrev pub onPlan : {A : Type 0} → Planned → (ℕ → A) → (Plan → A) → A

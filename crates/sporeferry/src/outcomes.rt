@@ -1,0 +1,182 @@
+// A step's outcome as C sees it: a number and values.
+ghost use mathlib.Core.List.{[], _∷_};
+ghost use Rattle.sporeferry.specs.Calls.{Tells, planned, refined, gridded, counted, piece, kept, written, loaded};
+use components::OnePiece;
+use grid::Gridded;
+use marked::Kept;
+use mesh_file::Loaded;
+use mesh_file::Written;
+use plan::Planned;
+use refine::Refined;
+use refusals::Counted;
+
+#[repr(C)]
+pub struct PlanAnswer {
+    pub number: u32,
+    pub value: u32,
+    pub ox: f32,
+    pub oy: f32,
+    pub oz: f32,
+    pub half: f32,
+    pub nx: u32,
+    pub ny: u32,
+    pub nz: u32,
+    pub octants: u32,
+}
+
+#[repr(C)]
+pub struct Answer {
+    pub number: u32,
+    pub first: u64,
+    pub second: u64,
+    pub third: u64,
+}
+
+pub fn of_plan(a: Planned) -> PlanAnswer
+    ensures { λ r. ⌜ planned a r ⌝ }
+{
+    match a {
+        Planned::Ready(p) => PlanAnswer {
+            number: 0,
+            value: 0,
+            ox: p.ox,
+            oy: p.oy,
+            oz: p.oz,
+            half: p.half,
+            nx: p.nx,
+            ny: p.ny,
+            nz: p.nz,
+            octants: p.octants,
+        },
+        Planned::Refused(number) => PlanAnswer {
+            number,
+            value: 0,
+            ox: 0.0,
+            oy: 0.0,
+            oz: 0.0,
+            half: 0.0,
+            nx: 0,
+            ny: 0,
+            nz: 0,
+            octants: 0,
+        },
+    }
+}
+
+// A number with one value at most.
+fn counts(number: u32, first: u64) -> Answer
+    ensures { λ r. ⌜ Tells number (first ∷ []) r ⌝ }
+{
+    Answer {
+        number,
+        first,
+        second: 0,
+        third: 0,
+    }
+}
+
+pub fn of_refine(a: Refined) -> Answer
+    ensures { λ r. ⌜ refined a r ⌝ }
+{
+    match a {
+        Refined::Done(ones) => counts(0, ones),
+        Refined::Refused(number) => counts(number, 0),
+        Refined::Short(octants) => counts(9, octants),
+    }
+}
+
+pub fn of_grid(a: Gridded) -> Answer
+    ensures { λ r. ⌜ gridded a r ⌝ }
+{
+    match a {
+        Gridded::Done(cells, vertices) => Answer {
+            number: 0,
+            first: cells,
+            second: vertices,
+            third: 0,
+        },
+        Gridded::Refused(number) => counts(number, 0),
+        Gridded::NoCells(cells) => counts(9, cells),
+        Gridded::NoVertices(cells, vertices) => Answer {
+            number: 9,
+            first: cells,
+            second: vertices,
+            third: 0,
+        },
+    }
+}
+
+pub fn of_counted(a: Counted) -> Answer
+    ensures { λ r. ⌜ counted a r ⌝ }
+{
+    match a {
+        Counted::Done(count) => counts(0, count),
+        Counted::Refused(number) => counts(number, 0),
+        Counted::Short(count) => counts(9, count),
+    }
+}
+
+pub fn of_one_piece(a: OnePiece) -> Answer
+    ensures { λ r. ⌜ piece a r ⌝ }
+{
+    match a {
+        OnePiece::Told(whole) => {
+            if whole {
+                return counts(0, 1);
+            }
+            counts(0, 0)
+        }
+        OnePiece::Refused(number) => counts(number, 0),
+    }
+}
+
+pub fn of_kept(a: Kept) -> Answer
+    ensures { λ r. ⌜ kept a r ⌝ }
+{
+    match a {
+        Kept::Done(points, cells, dropped) => Answer {
+            number: 0,
+            first: points,
+            second: cells,
+            third: dropped,
+        },
+        Kept::Refused(number) => counts(number, 0),
+        Kept::Short(points, cells) => Answer {
+            number: 9,
+            first: points,
+            second: cells,
+            third: 0,
+        },
+        Kept::Nothing => counts(10, 0),
+    }
+}
+
+pub fn of_written(a: Written) -> Answer
+    ensures { λ r. ⌜ written a r ⌝ }
+{
+    match a {
+        Written::Done(bytes) => counts(0, bytes),
+        Written::Refused(number) => counts(number, 0),
+        Written::Short(bytes) => counts(9, bytes),
+    }
+}
+
+pub fn of_loaded(a: Loaded) -> Answer
+    ensures { λ r. ⌜ loaded a r ⌝ }
+{
+    match a {
+        Loaded::Done(points, cells) => Answer {
+            number: 0,
+            first: points,
+            second: cells,
+            third: 0,
+        },
+        Loaded::Refused(number) => counts(number, 0),
+        Loaded::Short(points, cells) => Answer {
+            number: 9,
+            first: points,
+            second: cells,
+            third: 0,
+        },
+    }
+}
