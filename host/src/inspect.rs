@@ -77,7 +77,7 @@ fn tell_quality(report: &mut Report, quality: &Quality) {
     for (n, count) in quality.histogram.iter().enumerate().filter(|(_, count)| **count > 0) {
         let share = 100.0 * *count as f64 / angles as f64;
         let bar = "#".repeat((share / 2.0).ceil() as usize);
-        report.line("", format!("{:>3}° to {:>3}° {share:5.1} % {bar}", n * BIN, (n + 1) * BIN));
+        report.line("", format!("about {:>3}° {share:5.1} % {bar}", n * BIN));
     }
 }
 
@@ -100,7 +100,7 @@ fn of_quality(quality: &Quality) -> Json {
     Json::object([
         ("least_angle", quality.least_angle.into()),
         ("greatest_angle", quality.greatest_angle.into()),
-        ("degrees_of_a_bin", BIN.into()),
+        ("degrees_between_bins", BIN.into()),
         ("histogram", Json::list(quality.histogram)),
         ("volume", quality.volume.into()),
         ("least_volume", quality.least_volume.into()),

@@ -4,16 +4,17 @@ use crate::answers::filled;
 use crate::mesh::Mesh;
 use crate::vector::{cross, dot, length, sub, wide, Point};
 
-/// Angles of a bin of the histogram, in degrees.
-pub const BIN: usize = 20;
-pub const BINS: usize = 180 / BIN;
+/// Each bin of the histogram is about a multiple of this angle, in degrees, so that 45, 60, 90 and 120, the angles of our
+/// own cells, are in the middle of theirs.
+pub const BIN: usize = 15;
+pub const BINS: usize = 180 / BIN + 1;
 
 #[derive(Clone, Copy, Debug, PartialEq)]
 pub struct Quality {
     /// The least and the greatest angle between two faces of a cell, in degrees.
     pub least_angle: f64,
     pub greatest_angle: f64,
-    /// How many such angles are in each bin.
+    /// How many such angles are nearest to each multiple of `BIN`.
     pub histogram: [u64; BINS],
     /// The sum of the cells' absolute volumes, the least and the greatest.
     pub volume: f64,
@@ -67,7 +68,7 @@ impl Quality {
         for angle in angles([a, b, c, d]) {
             self.least_angle = self.least_angle.min(angle);
             self.greatest_angle = self.greatest_angle.max(angle);
-            self.histogram[(angle as usize / BIN).min(BINS - 1)] += 1;
+            self.histogram[(angle / BIN as f64).round() as usize] += 1;
         }
     }
 
@@ -189,7 +190,7 @@ mod tests {
         assert!(
             (one.greatest_angle - 90.0).abs() < 1e-9 && (one.least_angle - 54.7356).abs() < 1e-4
         );
-        assert_eq!((one.histogram[2], one.histogram[4], one.turned), (3, 3, 0));
+        assert_eq!((one.histogram[4], one.histogram[6], one.turned), (3, 3, 0));
         let two =
             Quality::new(&mesh(&POINTS, &[[0, 1, 2, 3], [1, 2, 4, 3], [0, 0, 1, 2], [5, 0, 1, 2]]));
         assert!(
