@@ -18,9 +18,9 @@ use std::path::Path;
 pub fn cover(order: &CoverOrder) -> Result<Told, String> {
     let output = order.output.as_path();
     let beside = evidence::beside(output);
-    let source = Source::read(&order.part)?;
     let place = place_for(&order.part.file, output, order.force)?;
     let place_beside = place_for(&order.part.file, &beside, order.force)?;
+    let source = Source::read(&order.part)?;
     let covered = covered(order, &source)?;
     let file = covered.mesh.to_bytes().map_err(about(output))?;
     let facts = evidence::of_cover(order, &source, &covered, &file);
