@@ -1,12 +1,12 @@
 -- The ceiling of a float: what `upDiv` is the least of, and how a bit pattern's fields give it. Assumes nothing.
 use mathlib.Core.Path.{_≡_, refl, sym, ap, _∙_, subst}
-use mathlib.Core.Logic.{_⊎_, inl, inr}
+use mathlib.Core.Logic.{inl, inr}
 use mathlib.Core.Bool.{Bool, true, false, not, cond}
 use Prim.Native.Nat.{ℕ, zero, suc, _+_, _-_, _*_, _/_, _%_, _^_, _≤_, _<_, min}
-use native.Mathlib.Nat.{le-refl, le-trans, le-of-eq, le-of-lt, le-antisymm, lt-of-lt-of-le, lt-of-le-of-lt, lt-of-not-le, not-le-of-lt, eq-or-lt-of-le, zero-mul, zero-lt-suc, mul-one, one-mul, mul-assoc, mul-comm, mul-right-comm, mul-le-mul-right, mul-le-mul, le-of-mul-le-mul-right, suc-mul, div-lt-iff-lt-mul, mod-lt, mod-eq-of-lt, le-add-right, mul-pos}
+use native.Mathlib.Nat.{le-refl, le-trans, le-of-eq, le-of-lt, le-antisymm, lt-of-lt-of-le, lt-of-not-le, not-le-of-lt, eq-or-lt-of-le, zero-mul, mul-one, one-mul, mul-assoc, mul-right-comm, mul-le-mul-right, mul-le-mul, le-of-mul-le-mul-right, suc-mul, div-lt-iff-lt-mul, mod-lt, mod-eq-of-lt, le-add-right, mul-pos}
 use native.Mathlib.Numerals.{add-one}
 use native.Mathlib.Omega.{arith}
-use borrow.Author.Tests.{lt-leb, le-leb, ne-eqb, eq-eqb}
+use borrow.Author.Tests.{lt-leb, le-leb, ne-eqb}
 use lib.Dec.{T, leb, eqb, lit<, lit≤}
 use lib.Pow.{pow-add, pow-pos, pow-mono, shl-lt, shl-exact}
 use lib.Ieee.{Float, nan, inf, fin, binary32, up, down, odd, ofFields, ofBits, toBits, fits, isNan}
@@ -77,13 +77,13 @@ module _ (most : ℕ) where
       go false q g = ceil-odd 24 (8388608 + t) x 149
 
   -- an exponent's field of all ones
-  ceil-ones : (t : ℕ) → ceilTo most (ofFields binary32 false 255 t) ≡ suc most
-  unfolding ofFields ceilTo
-  ceil-ones t = go (eqb t 0)
+  ceil-ones : (t : ℕ) → isNan (ofFields binary32 false 255 t) ≡ false → ceilTo most (ofFields binary32 false 255 t) ≡ suc most
+  unfolding ofFields ceilTo isNan
+  ceil-ones t h = go (eqb t 0) h
     where
-      go : (q : Bool) → ceilTo most (cond q (inf false) nan) ≡ suc most
-      go true = refl
-      go false = refl
+      go : (q : Bool) → isNan (cond q (inf false) nan) ≡ false → ceilTo most (cond q (inf false) nan) ≡ suc most
+      go true g = refl
+      go false g = apart (sym g)
 
 -- ---- the size of a float with a clear sign, in units of 2 ^ -149, by its pattern's fields
 
@@ -169,8 +169,8 @@ module _ (most b : ℕ) where
       sym (ap (ceilTo most) is ∙ ceil-negative most (b % 2147483648 / 8388608) (b % 8388608) (ap isNan (sym is) ∙ n))
 
   module _ (h : b < 2147483648) where
-    pub at-big : most < 8388608 → 150 ≤ b / 8388608 → suc most ≡ ceilTo most (ofBits binary32 b)
-    at-big m g = sym (ap (ceilTo most) (clear b h) ∙ go (b / 8388608) g (most-field b h))
+    pub at-big : isNan (ofBits binary32 b) ≡ false → most < 8388608 → 150 ≤ b / 8388608 → suc most ≡ ceilTo most (ofBits binary32 b)
+    at-big n m g = sym (ap (ceilTo most) (clear b h) ∙ go (b / 8388608) g (most-field b h) (ap isNan (sym (clear b h)) ∙ n))
       where
         most-field : (b : ℕ) → b < 2147483648 → b / 8388608 ≤ 255
         most-field b h = omega arith
@@ -178,13 +178,13 @@ module _ (most b : ℕ) where
         prev : (j : ℕ) → 150 ≤ suc j → 149 ≤ j
         prev j g = omega arith
 
-        go : (x : ℕ) → 150 ≤ x → x ≤ 255 → ceilTo most (ofFields binary32 false x (b % 8388608)) ≡ suc most
-        go zero g l = absurd (none g)
+        go : (x : ℕ) → 150 ≤ x → x ≤ 255 → isNan (ofFields binary32 false x (b % 8388608)) ≡ false → ceilTo most (ofFields binary32 false x (b % 8388608)) ≡ suc most
+        go zero g l n = absurd (none g)
           where
             none : 150 ≤ 0 → ⊥
             none g = omega arith
-        go (suc j) g l = elim (eq-or-lt-of-le l) [
-          | inl e ↦ subst (λ (k : ℕ). ceilTo most (ofFields binary32 false k (b % 8388608)) ≡ suc most) (sym e) (ceil-ones most (b % 8388608))
+        go (suc j) g l n = elim (eq-or-lt-of-le l) [
+          | inl e ↦ subst (λ (k : ℕ). isNan (ofFields binary32 false k (b % 8388608)) ≡ false → ceilTo most (ofFields binary32 false k (b % 8388608)) ≡ suc most) (sym e) (ceil-ones most (b % 8388608)) n
           | inr r ↦ ceil-sized most (suc j) (b % 8388608) r ∙ capped (upDiv ((8388608 + b % 8388608) * 2 ^ j) (2 ^ 149)) most (big most j (b % 8388608) m (prev j g))
         ]
 
@@ -233,9 +233,9 @@ at-zero most = go (suc most)
     go : (k : ℕ) → 0 ≡ min 0 k
     go k = omega arith
 
-pub at-nan : (most : ℕ) → most + 1 ≡ ceilTo most nan
+pub at-nan : (most : ℕ) → 0 ≡ ceilTo most nan
 unfolding ceilTo
-at-nan most = add-one most
+at-nan most = refl
 
 -- ---- the same of an x that the format holds, by its pattern
 module _ (most : ℕ) (x : Float) (F : T (fits binary32 x)) where
@@ -255,15 +255,18 @@ module _ (most : ℕ) (x : Float) (F : T (fits binary32 x)) where
   to : (n : ℕ) → n ≡ ceilTo most (ofBits binary32 bits) → n ≡ ceilTo most x
   to n h = h ∙ ap (ceilTo most) (ofBits-toBits binary32 x F)
 
+  real : T (not (isNan x)) → isNan (ofBits binary32 bits) ≡ false
+  real n = ap isNan (ofBits-toBits binary32 x F) ∙ is-false (isNan x) n
+
   pub negative : 2147483648 ≤ bits → T (not (isNan x)) → 0 ≡ ceilTo most x
-  negative h n = to 0 (at-negative most bits h (ap isNan (ofBits-toBits binary32 x F) ∙ is-false (isNan x) n))
+  negative h n = to 0 (at-negative most bits h (real n))
 
   pub nothing : bits ≡ 0 → 0 ≡ ceilTo most x
   nothing h = to 0 (at-zero most ∙ ap (λ (b : ℕ). ceilTo most (ofBits binary32 b)) (sym h))
 
   module _ (h : bits < 2147483648) where
-    pub beyond : most < 8388608 → 150 ≤ bits / 8388608 → most + 1 ≡ ceilTo most x
-    beyond m g = to (most + 1) (add-one most ∙ at-big most bits h m g)
+    pub beyond : T (not (isNan x)) → most < 8388608 → 150 ≤ bits / 8388608 → most + 1 ≡ ceilTo most x
+    beyond n m g = to (most + 1) (add-one most ∙ at-big most bits h (real n) m g)
 
     pub within-one : (bits ≡ 0 → ⊥) → bits / 8388608 < 127 → 1 ≡ ceilTo most x
     within-one n g = to 1 (at-small most bits h n g)

@@ -1,30 +1,22 @@
--- The ceiling is the least whole number not below a float. Assumes nothing.
-use mathlib.Core.Path.{_≡_, refl, sym, ap, _∙_, subst}
-use mathlib.Core.Bool.{Bool, true, false, not, _&&_, _||_, Bool·beq, cond}
-use mathlib.Core.Logic.{_⊎_, inl, inr}
-use Prim.Native.Nat.{ℕ, zero, suc, _+_, _-_, _*_, _^_, _≤_, _<_, min, zero-le}
-use native.Mathlib.Nat.{le-refl, le-trans, le-of-eq, le-antisymm, mul-one, mul-assoc, mul-comm, mul-right-comm, mul-le-mul-right, le-of-mul-le-mul-right, le-of-lt, lt-of-not-le, not-le-of-lt}
+-- The ceiling is the least whole number that a float is not above. Assumes nothing.
+use mathlib.Core.Path.{_≡_, refl}
+use mathlib.Core.Bool.{true, false, not}
+use Prim.Native.Nat.{ℕ, suc, _-_, _*_, _≤_, min, zero-le}
+use native.Mathlib.Nat.{le-refl}
 use native.Mathlib.Omega.{arith}
-use borrow.Author.Tests.{leb-true, leb-false, lt-leb, le-leb, ltb-true, ltb-false, lt-ltb, le-ltb, eq-eqb, ne-eqb, eqb-true, eqb-false}
-use lib.Dec.{T, leb, ltb, eqb}
-use lib.IntN.{pos}
-use lib.Ieee.{Float, nan, inf, fin, binary32, up, down, round, lt, eq, le, below, level, ofInt}
-use lib.Ieee.Exact.{HasValue}
-use lib.Ieee.Back.{round-whole}
+use borrow.Author.Tests.{leb-true, le-leb}
+use lib.Ieee.{Float, nan, inf, fin, up, down}
 use lib.Ieee.Fits.{down-pos}
-use Rattle.float32.specs.Ceiling.{notBelow, upDiv, ceilTo}
+use Rattle.float32.specs.Ceiling.{notAbove, upDiv, ceilTo}
 use Rattle.float32.proofs.Floats.{apart}
 use Rattle.float32.proofs.Fields.{up-least, up-covers}
 
--- ---- what `ceilTo` says: where it is at most `most` it is not below x, and no number up to `most` that is not below x is less
+-- ---- what `ceilTo` says: where it is at most `most` x is not above it, and no number up to `most` that x is not above is less
 
 module _ (most : ℕ) where
-  pub ceil-covers : (x : Float) → ceilTo most x ≤ most → notBelow (ceilTo most x) x ≡ true
-  unfolding ceilTo notBelow
-  ceil-covers nan h = absurd (over most h)
-    where
-      over : (m : ℕ) → suc m ≤ m → ⊥
-      over m h = omega arith
+  pub ceil-covers : (x : Float) → ceilTo most x ≤ most → notAbove x (ceilTo most x) ≡ true
+  unfolding ceilTo notAbove
+  ceil-covers nan h = refl
   ceil-covers (inf true) h = refl
   ceil-covers (inf false) h = absurd (over most h)
     where
@@ -38,9 +30,9 @@ module _ (most : ℕ) where
       go : (u : ℕ) → min u (suc most) ≤ most → u ≤ min u (suc most)
       go u h = omega arith
 
-  pub ceil-least : (x : Float) (n : ℕ) → n ≤ suc most → notBelow n x ≡ true → ceilTo most x ≤ n
-  unfolding ceilTo notBelow
-  ceil-least nan n l h = apart h
+  pub ceil-least : (x : Float) (n : ℕ) → n ≤ suc most → notAbove x n ≡ true → ceilTo most x ≤ n
+  unfolding ceilTo notAbove
+  ceil-least nan n l h = zero-le
   ceil-least (inf true) n l h = zero-le
   ceil-least (inf false) n l h = apart h
   ceil-least (fin true m e) n l h = zero-le
@@ -51,7 +43,7 @@ module _ (most : ℕ) where
 
   pub ceil-most : (x : Float) → ceilTo most x ≤ suc most
   unfolding ceilTo
-  ceil-most nan = le-refl (suc most)
+  ceil-most nan = zero-le
   ceil-most (inf true) = zero-le
   ceil-most (inf false) = le-refl (suc most)
   ceil-most (fin true m e) = zero-le

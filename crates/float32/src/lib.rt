@@ -38,14 +38,14 @@ pub fn is_size(x: f32) -> bool
     0.0 < x && is_finite(x)
 }
 
-// The least whole number not below x, or most + 1 where it is above most. It picks x's bit pattern apart: where the sign is clear and
+// The least whole number that x is not above, or most + 1 where it is above most; 0 of a NaN, as the Rust's cast has it. It picks x's bit pattern apart: where the sign is clear and
 // the exponent's field is from 127 to 149, x is digits / 2 ^ shift.
 pub fn ceiling(x: f32, most: u32) -> u32
     requires { ⌜ most < 8388608 ⌝ }
     ensures { λ r. ⌜ r ≡ ceilTo most x ⌝ }
 {
     if x != x {
-        return most + 1;
+        return 0;
     }
     let bits = f32::to_bits(x);
     if bits >= 0x8000_0000 {

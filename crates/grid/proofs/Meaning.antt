@@ -10,9 +10,9 @@ use Rattle.refusals.specs.Rows.{_when_, first, proper, rising, caused, lower}
 use Rattle.lists.specs.Tables.{Determined}
 use Rattle.refusals.proofs.Rows.{number-rows, goes-on, exactly}
 use Rattle.lists.proofs.Lent.{determined}
-use Rattle.plan.specs.Plan.{planOf, planRows, onPlan}
-use Rattle.plan.specs.Plan as plan
-use Rattle.plan.proofs.Refusals as refusals
+use Rattle.plan.specs.Step.{planOf, planRows, onPlan}
+use Rattle.plan.specs.Step as plan
+use Rattle.plan.proofs.Theorems as refusals
 use Rattle.plan.specs.declared.Bounds.{Bounds}
 use Rattle.plan.specs.declared.Plan.{Plan}
 use Rattle.plan.specs.declared.Planned.{Planned}

@@ -12,13 +12,14 @@ use lib.ListN.{length, take, drop, replicate, take-append-drop, drop-of-length-l
 use lib.Seq.{length-take-le}
 use Rattle.refusals.specs.Rows.{first, proper}
 use Rattle.refusals.proofs.Rows.{clear, unless-none, unless-some}
-use Rattle.space.proofs.Space.{on-all}
+use Rattle.space.specs.Space.{ax, ay, az}
 use Rattle.space.specs.Levels.{off}
 use Rattle.octants.specs.Judge.{isGraded}
 use Rattle.octants.proofs.Judge.{graded-closes}
 use Rattle.sides.specs.Told.{Taken}
-use Rattle.plan.specs.Plan.{planOf}
-use Rattle.plan.proofs.Ready.{ReadyPlan, ready}
+use Rattle.plan.specs.Step.{planOf}
+use Rattle.plan.specs.Parts.{Planful as PlanReady}
+use Rattle.plan.proofs.Ready.{ready, ready-levels}
 use Rattle.plan.specs.declared.Bounds.{Bounds}
 use Rattle.plan.specs.declared.Plan.{Plan}
 use Rattle.plan.specs.declared.Planned.the-variants as planned
@@ -104,21 +105,21 @@ module _ (p : Plan) (s C T P w : List ℕ) {n : ℕ} (en : n ≡ cellCount p s) 
 -- ---- a plan that is ready
 
 module _ (b : Bounds) (c : Float) (levels : ℕ) (p : Plan) (e : planOf b c levels ≡ planned.Ready p) where
-  known : ReadyPlan levels p
+  known : PlanReady p
   known = ready b c levels p e
 
   pub levels-are : p .levels ≡ levels
-  levels-are = known .levels-are
+  levels-are = ready-levels b c levels p e
 
   pub planful : Planful p
   planful =
       let k = known in
       record {
-        dims-some = (k .x .some, k .y .some, k .z .some);
-        dims-few = (k .x .few, k .y .few, k .z .few);
-        roots-few = λ h. (k .x .roots (omega (arith, k .levels-are)), k .y .roots (omega (arith, k .levels-are)), k .z .roots (omega (arith, k .levels-are)));
-        levels-few = omega (arith, k .levels-are, k .levels-few);
-        octants-are = k .octants-are ∙ ap (off (dimsOf p)) (sym (k .levels-are));
+        dims-some = (k .dims .some ax, k .dims .some ay, k .dims .some az);
+        dims-few = (k .dims .few ax, k .dims .few ay, k .dims .few az);
+        roots-few = λ h. (k .roots h .few ax, k .roots h .few ay, k .roots h .few az);
+        levels-few = k .levels-few;
+        octants-are = k .octants-are;
         octants-few = k .octants-few;
       }
 
@@ -155,10 +156,7 @@ module _ (b : Bounds) (c : Float) (levels : ℕ) (p : Plan) (e : planOf b c leve
         let k = known in
         let o : 1 ≤ levels = omega arith in
         record {
-          dims = record {
-            some = on-all (λ a. 1 ≤ dimsOf p a) (k .x .some) (k .y .some) (k .z .some);
-            few = on-all (λ a. dimsOf p a ≤ 64) (k .x .roots o) (k .y .roots o) (k .z .roots o);
-          };
+          dims = k .roots (omega (arith, levels-are));
           some = omega (arith, levels-are);
           few = planful .levels-few;
           whole = whole ∙ planful .octants-are;

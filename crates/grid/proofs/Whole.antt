@@ -18,7 +18,7 @@ use Rattle.lists.proofs.Bools.{and-left, and-right}
 use Rattle.refusals.proofs.Rows.{unless-none, unless-some}
 use Rattle.space.specs.Space.{Axis, ax, ay, az, Pos, pos}
 use Rattle.vertex_keys.specs.Keys.{Before}
-use Rattle.plan.specs.Plan.{planOf, onPlan}
+use Rattle.plan.specs.Step.{planOf, onPlan}
 use Rattle.plan.specs.declared.Bounds.{Bounds}
 use Rattle.plan.specs.declared.Plan.{Plan}
 use Rattle.plan.specs.declared.Planned.{Planned}

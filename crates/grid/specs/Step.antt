@@ -11,7 +11,7 @@ use Rattle.refusals.specs.Rows.{Row, _when_, first, unless}
 use Rattle.lists.specs.Tables.{allAtMost, front, zeroed}
 use Rattle.octants.specs.Judge.{isGraded}
 use Rattle.space.specs.Levels.{off}
-use Rattle.plan.specs.Plan.{planOf, planRows, onPlan}
+use Rattle.plan.specs.Step.{planOf, planRows, onPlan}
 use Rattle.plan.specs.declared.Bounds.{Bounds}
 use Rattle.plan.specs.declared.Plan.{Plan}
 use Rattle.plan.specs.Vertices.{dimsOf}

@@ -9,7 +9,7 @@ use lib.Ieee.{Float}
 use Rattle.lists.specs.Runs.{run, Stored, Room}
 use Rattle.space.specs.Space.{Axis, ax, ay, az, Pos, pos}
 use Rattle.octree_cells.specs.Cells.{flat}
-use Rattle.plan.specs.Plan.{placeOf}
+use Rattle.plan.specs.Vertices.{placeOf}
 use Rattle.plan.specs.Vertices.{dimsOf, spread}
 use Rattle.lattice.specs.Lattice.{odds, doubled, indexOf, latticeVertices, latticeCells, centreCells, octaNumbers}
 use Rattle.lattice.specs.declared.Counts.{Counts}

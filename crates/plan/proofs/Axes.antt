@@ -15,9 +15,10 @@ use Rattle.float32.specs.Operations.{_+f_, _/f_}
 use Rattle.space.specs.Space.{pos}
 use Rattle.space.specs.Levels.{mostLevels}
 use Rattle.space.proofs.Space.{on-all}
-use Rattle.plan.specs.Plan.{mostLattice, Few, Small, latticeScale, octreeScale, scaleOf, originOf, extentOf, dimsOf, farOf, fitsOn, allFinite, axisOf}
+use Rattle.plan.specs.Step.{mostLattice, latticeScale, octreeScale, scaleOf, originOf, extentOf, dimOf, farOf, fitsOn, allFinite, stretchOf}
+use Rattle.plan.specs.Parts.{Small, Few}
 use Rattle.plan.specs.declared.Scale.{Scale}
-use Rattle.plan.specs.declared.Axis.the-variants.{Covers, TooLong}
+use Rattle.plan.specs.declared.Stretch.the-variants.{Covers, TooLong}
 
 pub scale-small : (c : Float) (levels : ℕ) → levels ≤ mostLevels → Small (scaleOf c levels)
 unfolding scaleOf
@@ -33,18 +34,18 @@ second true false r h = h
 second false q r h = apart h
 
 -- an axis that is covered has a dimension in its bounds
-pub axis-fits : (s : Scale) (c lo hi o : Float) (n : ℕ) → axisOf s c lo hi ≡ Covers o n → (s .least ≤ n) × (n ≤ s .most)
-unfolding axisOf fitsOn dimsOf
-axis-fits s c lo hi o n e = go (fitsOn s c lo hi) refl e
+pub stretch-fits : (s : Scale) (c lo hi o : Float) (n : ℕ) → stretchOf s c lo hi ≡ Covers o n → (s .least ≤ n) × (n ≤ s .most)
+unfolding stretchOf fitsOn dimOf
+stretch-fits s c lo hi o n e = go (fitsOn s c lo hi) refl e
   where
-    in-bound : fitsOn s c lo hi ≡ true → dimsOf s c lo hi ≤ s .most
+    in-bound : fitsOn s c lo hi ≡ true → dimOf s c lo hi ≤ s .most
     in-bound f =
-        leb-true (dimsOf s c lo hi) (s .most)
-        (second (allFinite (lo +f neg c) (hi +f c) (originOf s c lo) (extentOf s c lo hi)) (leb (dimsOf s c lo hi) (s .most)) (finite (farOf s c lo hi)) f)
+        leb-true (dimOf s c lo hi) (s .most)
+        (second (allFinite (lo +f neg c) (hi +f c) (originOf s c lo) (extentOf s c lo hi)) (leb (dimOf s c lo hi) (s .most)) (finite (farOf s c lo hi)) f)
 
-    go : (t : Bool) → fitsOn s c lo hi ≡ t → cond t (Covers (originOf s c lo) (dimsOf s c lo hi)) TooLong ≡ Covers o n → (s .least ≤ n) × (n ≤ s .most)
+    go : (t : Bool) → fitsOn s c lo hi ≡ t → cond t (Covers (originOf s c lo) (dimOf s c lo hi)) TooLong ≡ Covers o n → (s .least ≤ n) × (n ≤ s .most)
     go true f g =
-        let same : dimsOf s c lo hi ≡ n = cc in
+        let same : dimOf s c lo hi ≡ n = cc in
         subst (λ (k : ℕ). (s .least ≤ k) × (k ≤ s .most)) same (le-max-left (s .least) (ceilTo (s .most) (extentOf s c lo hi /f s .width)), in-bound f)
     go false f g =
         let no : _≡_ {A = ℕ} 0 1 = cc in
@@ -53,5 +54,5 @@ axis-fits s c lo hi o n e = go (fitsOn s c lo hi) refl e
 pub few-three : {nx ny nz levels : ℕ} → nx ≤ mostLattice → ny ≤ mostLattice → nz ≤ mostLattice → levels ≤ mostLevels → Few nx ny nz levels
 few-three {nx} {ny} {nz} x y z l = record { dims-few = on-all (λ a. pos nx ny nz a ≤ mostLattice) x y z; levels-few = l }
 
-pub covered : (s : Scale) (c lo hi o : Float) (n : ℕ) → Small s → axisOf s c lo hi ≡ Covers o n → n ≤ mostLattice
-covered s c lo hi o n h e = le-trans (axis-fits s c lo hi o n e .1) (h .most-small)
+pub covered : (s : Scale) (c lo hi o : Float) (n : ℕ) → Small s → stretchOf s c lo hi ≡ Covers o n → n ≤ mostLattice
+covered s c lo hi o n h e = le-trans (stretch-fits s c lo hi o n e .1) (h .most-small)

@@ -7,31 +7,24 @@ use borrow.Author.Tests.{leb-true, eqb-true}
 use lib.Dec.{leb, eqb}
 use lib.Ieee.{Float}
 use lib.Ieee.Positive.{positive}
-use Rattle.space.specs.Space.{pos}
-use Rattle.space.specs.Levels.{mostLevels, mostRoots, mostOctants, off}
-use Rattle.plan.specs.Plan.{mostLattice, latticeScale, octreeScale, scaleOf, axisOf, straightBox, onAxis, counted, axesOf, planOf}
+use Rattle.space.specs.Space.{Axis, ax, ay, az}
+use Rattle.space.proofs.Space.{on-all}
+use Rattle.space.specs.Levels.{mostLevels, mostRoots, mostOctants}
+use Rattle.plan.specs.Step.{mostLattice, latticeScale, octreeScale, scaleOf, stretchAt, straightBox, onAxis, counted, axesOf, planOf, low, high}
+use Rattle.plan.specs.Parts.{Planful}
 use Rattle.plan.specs.declared.Bounds.{Bounds}
 use Rattle.plan.specs.declared.Plan.{Plan}
-use Rattle.plan.specs.declared.Axis.{Axis}
-use Rattle.plan.specs.declared.Axis.the-variants.{Covers, TooLong}
+use Rattle.plan.specs.declared.Stretch.{Stretch}
+use Rattle.plan.specs.declared.Stretch.the-variants.{Covers, TooLong}
 use Rattle.plan.specs.declared.Planned.{Planned}
 use Rattle.plan.specs.declared.Planned.the-variants.{Ready, Refused}
-use Rattle.plan.proofs.Axes.{axis-fits}
+use Rattle.plan.proofs.Axes.{stretch-fits}
 
 -- an axis' dimension: at least 1, at most 128 in a lattice and 64 in an octree
-pub record Along (levels n : ℕ) : Type 0 where
-  pub some : 1 ≤ n
-  pub few : n ≤ mostLattice
-  pub roots : 1 ≤ levels → n ≤ mostRoots
-
-pub record ReadyPlan (levels : ℕ) (p : Plan) : Type 0 where
-  pub levels-are : p .levels ≡ levels
-  pub levels-few : levels ≤ mostLevels
-  pub x : Along levels (p .nx)
-  pub y : Along levels (p .ny)
-  pub z : Along levels (p .nz)
-  pub octants-are : p .octants ≡ off (pos (p .nx) (p .ny) (p .nz)) levels
-  pub octants-few : p .octants ≤ mostOctants
+record Along (levels n : ℕ) : Type 0 where
+  some : 1 ≤ n
+  few : n ≤ mostLattice
+  roots : 1 ≤ levels → n ≤ mostRoots
 
 scale-fits : (c : Float) (levels n : ℕ) → scaleOf c levels .least ≤ n → n ≤ scaleOf c levels .most → Along levels n
 unfolding scaleOf
@@ -41,19 +34,18 @@ scale-fits c levels n p q = go (eqb levels 0) refl p q
     go true e p q = let z : levels ≡ 0 = eqb-true levels 0 e in record { some = omega arith; few = q; roots = λ h. absurd (omega arith) }
     go false e p q = record { some = p; few = omega arith; roots = λ h. q }
 
-module _ (c : Float) (levels : ℕ) where
-  -- an axis that is covered, and what follows it
-  on-axis : (lo hi : Float) (k : Float → ℕ → Planned) (p : Plan) → onAxis (axisOf (scaleOf c levels) c lo hi) k ≡ Ready p
-      → (o : Float) × (n : ℕ) × (Along levels n) × (k o n ≡ Ready p)
-  on-axis lo hi k p e = go (axisOf (scaleOf c levels) c lo hi) refl e
-    where
-      go : (a : Axis) → axisOf (scaleOf c levels) c lo hi ≡ a → onAxis a k ≡ Ready p → (o : Float) × (n : ℕ) × (Along levels n) × (k o n ≡ Ready p)
-      go TooLong f g =
-          let no : _≡_ {A = ℕ} 0 1 = cc in
-          absurd (omega arith)
-      go (Covers o n) f g =
-          let b = axis-fits (scaleOf c levels) c lo hi o n f in
-          (o, n, scale-fits c levels n (b .0) (b .1), g)
+-- an axis that is covered, and what follows it
+on-axis : (b : Bounds) (c : Float) (levels : ℕ) (a : Axis) (k : Float → ℕ → Planned) (p : Plan) → onAxis (stretchAt (scaleOf c levels) b c a) k ≡ Ready p
+    → (o : Float) × (n : ℕ) × (Along levels n) × (k o n ≡ Ready p)
+on-axis b c levels a k p e = go (stretchAt (scaleOf c levels) b c a) refl e
+  where
+    go : (s : Stretch) → stretchAt (scaleOf c levels) b c a ≡ s → onAxis s k ≡ Ready p → (o : Float) × (n : ℕ) × (Along levels n) × (k o n ≡ Ready p)
+    go TooLong f g =
+        let no : _≡_ {A = ℕ} 0 1 = cc in
+        absurd (omega arith)
+    go (Covers o n) f g =
+        let h = stretch-fits (scaleOf c levels) c (low b a) (high b a) o n f in
+        (o, n, scale-fits c levels n (h .0) (h .1), g)
 
 counted-ready : (q p : Plan) → counted q ≡ Ready p → (q ≡ p) × (q .octants ≤ mostOctants)
 unfolding counted
@@ -67,28 +59,43 @@ counted-ready q p e = go (leb (q .octants) mostOctants) refl e
         let no : _≡_ {A = ℕ} 0 1 = cc in
         absurd (omega arith)
 
-axes-ready : (b : Bounds) (c : Float) (levels : ℕ) (p : Plan) → levels ≤ mostLevels → axesOf (scaleOf c levels) b c levels ≡ Ready p → ReadyPlan levels p
+axes-ready : (b : Bounds) (c : Float) (levels : ℕ) (p : Plan) → levels ≤ mostLevels → axesOf (scaleOf c levels) b c levels ≡ Ready p → (p .levels ≡ levels) × Planful p
 unfolding axesOf
 axes-ready b c levels p h e =
-    let x = on-axis c levels (b .x0) (b .x1) _ p e in
-    let y = on-axis c levels (b .y0) (b .y1) _ p (x .3) in
-    let z = on-axis c levels (b .z0) (b .z1) _ p (y .3) in
+    let x = on-axis b c levels ax _ p e in
+    let y = on-axis b c levels ay _ p (x .3) in
+    let z = on-axis b c levels az _ p (y .3) in
     let k = counted-ready _ p (z .3) in
-    subst (ReadyPlan levels) (k .0)
-    (record { levels-are = refl; levels-few = h; x = x .2; y = y .2; z = z .2; octants-are = refl; octants-few = k .1 })
+    subst (λ (p : Plan). (p .levels ≡ levels) × Planful p) (k .0) (
+      refl,
+      record {
+        dims = record { some = on-all _ (x .2 .some) (y .2 .some) (z .2 .some); few = on-all _ (x .2 .few) (y .2 .few) (z .2 .few) };
+        roots = λ i. record { some = on-all _ (x .2 .some) (y .2 .some) (z .2 .some); few = on-all _ (x .2 .roots i) (y .2 .roots i) (z .2 .roots i) };
+        levels-few = h;
+        octants-are = refl;
+        octants-few = k .1;
+      },
+    )
 
-pub ready : (b : Bounds) (c : Float) (levels : ℕ) (p : Plan) → planOf b c levels ≡ Ready p → ReadyPlan levels p
+planned-ready : (b : Bounds) (c : Float) (levels : ℕ) (p : Plan) → planOf b c levels ≡ Ready p → (p .levels ≡ levels) × Planful p
 unfolding planOf
-ready b c levels p e = go (positive c) (straightBox b) (leb levels mostLevels) refl e
+planned-ready b c levels p e = go (positive c) (straightBox b) (leb levels mostLevels) refl e
   where
-    none : {n : ℕ} → Refused n ≡ Ready p → ReadyPlan levels p
+    none : {n : ℕ} → Refused n ≡ Ready p → (p .levels ≡ levels) × Planful p
     none g =
         let no : _≡_ {A = ℕ} 0 1 = cc in
         absurd (omega arith)
 
     go : (q r t : Bool) → leb levels mostLevels ≡ t
-        → cond q (cond r (cond t (axesOf (scaleOf c levels) b c levels) (Refused 3)) (Refused 2)) (Refused 1) ≡ Ready p → ReadyPlan levels p
+        → cond q (cond r (cond t (axesOf (scaleOf c levels) b c levels) (Refused 3)) (Refused 2)) (Refused 1) ≡ Ready p → (p .levels ≡ levels) × Planful p
     go true true true f g = axes-ready b c levels p (leb-true levels mostLevels f) g
     go true true false f g = none g
     go true false t f g = none g
     go false r t f g = none g
+
+-- the levels are those asked for
+pub ready-levels : (b : Bounds) (c : Float) (levels : ℕ) (p : Plan) → planOf b c levels ≡ Ready p → p .levels ≡ levels
+ready-levels b c levels p e = planned-ready b c levels p e .0
+
+pub ready : (b : Bounds) (c : Float) (levels : ℕ) (p : Plan) → planOf b c levels ≡ Ready p → Planful p
+ready b c levels p e = planned-ready b c levels p e .1

@@ -1,10 +1,14 @@
 -- What a vertex of a plan is: an integer triple and the bits of its point, three entries of a table each.
 use mathlib.Core.List.{List, [], _∷_}
 use Prim.Native.Nat.{ℕ}
-use lib.Ieee.{Float}
+use lib.Ieee.{Float, binary32, toBits}
+use Rattle.float32.specs.Operations.{_+f_, _*f_, whole32}
 use Rattle.space.specs.Space.{Axis, ax, ay, az, Pos, pos}
-use Rattle.plan.specs.Plan.{placeOf}
 use Rattle.plan.specs.declared.Plan.{Plan}
+
+-- where the whole number v stands along an axis, as a bit pattern
+unfoldable pub placeOf : Float → Float → ℕ → ℕ
+placeOf origin half v = toBits binary32 (origin +f whole32 v *f half)
 
 abbrev pub dimsOf : Plan → Pos
 dimsOf p = pos (p .nx) (p .ny) (p .nz)

@@ -2,8 +2,10 @@
 ghost use mathlib.Core.Path.{_≡_};
 ghost use Prim.Native.Nat.{_≤_, _^_, max};
 ghost use Rattle.space.specs.Space.{pos};
-ghost use Rattle.space.specs.Levels.{off};
-ghost use Rattle.plan.specs.Plan.{allFinite, scaleOf, axisOf, axesOf, Small, Few, straight, straightBox, planOf, numberOf, placeOf};
+ghost use Rattle.space.specs.Levels.{mostLevels, off};
+ghost use Rattle.plan.specs.Vertices.{placeOf};
+ghost use Rattle.plan.specs.Step.{allFinite, scaleOf, stretchOf, axesOf, straight, straightBox, planOf, numberOf};
+ghost use Rattle.plan.specs.Parts.{Small, Few};
 
 // A box: its lower and its upper bounds along x, y and z.
 #[repr(C)]
@@ -28,7 +30,7 @@ pub struct Scale {
 }
 
 // One axis: its origin and its dimension, or none.
-pub enum Axis {
+pub enum Stretch {
     Covers(f32, u32),
     TooLong,
 }
@@ -104,7 +106,7 @@ fn is_box(b: Bounds) -> bool
 
 // 2 ^ levels
 fn width_of(levels: u32) -> u32
-    requires { ⌜ levels ≤ 5 ⌝ }
+    requires { ⌜ levels ≤ mostLevels ⌝ }
     ensures { λ r. ⌜ r ≡ 2 ^ levels ⌝ }
     ensures { λ r. ⌜ r ≤ 32 ⌝ }
 {
@@ -112,7 +114,7 @@ fn width_of(levels: u32) -> u32
 }
 
 fn scaled(c: f32, levels: u32) -> Scale
-    requires { ⌜ levels ≤ 5 ⌝ }
+    requires { ⌜ levels ≤ mostLevels ⌝ }
     ensures { λ r. ⌜ r ≡ scaleOf c levels ⌝ }
 {
     if levels == 0 {
@@ -143,27 +145,27 @@ fn larger(a: u32, b: u32) -> u32
 }
 
 // One axis of the box, from lo to hi.
-fn along(s: Scale, c: f32, lo: f32, hi: f32) -> Axis
+fn along(s: Scale, c: f32, lo: f32, hi: f32) -> Stretch
     requires { ⌜ Small s ⌝ }
-    ensures { λ r. ⌜ r ≡ axisOf s c lo hi ⌝ }
+    ensures { λ r. ⌜ r ≡ stretchOf s c lo hi ⌝ }
 {
     let min = lo + -c;
     let max = hi + c;
     let origin = min - s.margin;
     let extent = (max - min) + s.margin * 2.0;
     if !are_finite(min, max, origin, extent) {
-        return Axis::TooLong;
+        return Stretch::TooLong;
     }
     let most = s.most;
     let n = larger(s.least, float32::ceiling(extent / s.width, most));
     if n > most {
-        return Axis::TooLong;
+        return Stretch::TooLong;
     }
     let v = n * s.units;
     if !float32::is_finite(origin + (v as f32) * s.half) {
-        return Axis::TooLong;
+        return Stretch::TooLong;
     }
-    Axis::Covers(origin, n)
+    Stretch::Covers(origin, n)
 }
 
 // The octants of the levels from the roots' down to level 1: 1 + 8 + 64 + … to a root.
@@ -178,16 +180,16 @@ fn count(nx: u32, ny: u32, nz: u32, levels: u32) -> u64
 // The three axes, and the octants.
 fn over(s: Scale, b: Bounds, c: f32, levels: u32) -> Planned
     requires { ⌜ Small s ⌝ }
-    requires { ⌜ levels ≤ 5 ⌝ }
+    requires { ⌜ levels ≤ mostLevels ⌝ }
     ensures { λ r. ⌜ r ≡ axesOf s b c levels ⌝ }
 {
-    let Axis::Covers(ox, nx) = along(s, c, b.x0, b.x1) else {
+    let Stretch::Covers(ox, nx) = along(s, c, b.x0, b.x1) else {
         return Planned::Refused(4);
     };
-    let Axis::Covers(oy, ny) = along(s, c, b.y0, b.y1) else {
+    let Stretch::Covers(oy, ny) = along(s, c, b.y0, b.y1) else {
         return Planned::Refused(4);
     };
-    let Axis::Covers(oz, nz) = along(s, c, b.z0, b.z1) else {
+    let Stretch::Covers(oz, nz) = along(s, c, b.z0, b.z1) else {
         return Planned::Refused(4);
     };
     let n = count(nx, ny, nz, levels);

@@ -7,13 +7,14 @@ use Prim.Native.Nat.{ℕ, _<_}
 use lib.Dec.{ltb}
 use lib.Ieee.{Float}
 use lib.ListN.{length, drop}
-use Rattle.refusals.specs.Rows.{_when_, first, proper, rising, caused, lower}
+use Rattle.refusals.specs.Rows.{_when_, first, InTurn, proper, rising, caused, lower}
 use Rattle.lists.specs.Tables.{front, on, Determined}
-use Rattle.refusals.proofs.Rows.{number-rows, goes-on, exactly}
+use Rattle.refusals.proofs.Rows.{number-rows, goes-on, in-turn, exactly}
 use Rattle.lists.proofs.Lent.{as-new, determined}
-use Rattle.plan.specs.Plan.{planOf, planRows, onPlan}
-use Rattle.plan.specs.Plan as plan
-use Rattle.plan.proofs.Refusals as refusals
+use Rattle.plan.specs.Step.{planOf, planRows, onPlan}
+use Rattle.plan.specs.Step as plan
+use Rattle.plan.proofs.Theorems as refusals
+use Rattle.plan.specs.Vertices.{dimsOf}
 use Rattle.plan.specs.declared.Bounds.{Bounds}
 use Rattle.plan.specs.declared.Plan.{Plan}
 use Rattle.plan.specs.declared.Planned.{Planned}
@@ -27,7 +28,7 @@ use Rattle.octants.proofs.DemandTable.{least-agree, table-least, front-agree}
 use Rattle.octants.specs.Rounds.{Rounds}
 use Rattle.octants.proofs.Rounds.{rounds-refined, rounds-table}
 use Rattle.octree.specs.Rows.{answerRows}
-use Rattle.refine.specs.Step.{roomRows, refineRows, numberOf, rootsOf, splitOf, answerFor, refinedOf, splitAfter, RefineDone}
+use Rattle.refine.specs.Step.{roomRows, refineRows, numberOf, splitOf, answerFor, refinedOf, splitAfter, RefineDone}
 use Rattle.refine.specs.declared.Refined.{Refined}
 use Rattle.refine.specs.declared.Refined.the-variants.{Done, Refused, Short}
 
@@ -51,7 +52,11 @@ module _ (b : Bounds) (c : Float) (levels : ℕ) (C o : List ℕ) where
       go (planned.Ready p) e = answer-number p C o ∙ sym (goes-on (planRows b c levels) (answerRows (p .octants) C ++ roomRows (p .octants) o) (unfold proper in unfold planRows in refl) e refl)
       go (planned.Refused n) e = e ∙ ap first (sym (append-nil (planRows b c levels)))
 
-  -- a number is given exactly when its cause is there, and none for a lower one
+  -- a number is given exactly when a row of this number has its cause and no row before it has one
+  pub refine-in-turn : (k : ℕ) → 0 < k → (numberOf (refinedOf b c levels C o) ≡ k) ↔ InTurn k (refineRows b c levels C o)
+  refine-in-turn = in-turn (refineRows b c levels C o) number-is
+
+  -- so the lowest number is given first
   pub refine-exactly : (k : ℕ) → 0 < k
       → (numberOf (refinedOf b c levels C o) ≡ k) ↔ ((caused k (refineRows b c levels C o) ≡ true) × (lower k (refineRows b c levels C o) ≡ false))
   refine-exactly = exactly (refineRows b c levels C o) (rise (planOf b c levels)) number-is
@@ -76,10 +81,10 @@ module _ (b : Bounds) (c : Float) (levels : ℕ) (C o : List ℕ) where
 
     -- demand 3: in the split table crossed octants under crossed ancestors are split, touching leaves differ by at most one level, and
     -- every octree over the same roots and levels with these two properties splits all that ours splits
-    pub demand-3 : LeastRefinement (p .levels) (rootsOf p) (read (rootsOf p) (p .levels) C) (read (rootsOf p) (p .levels) (splitAfter b c levels C o))
+    pub demand-3 : LeastRefinement (p .levels) (dimsOf p) (read (dimsOf p) (p .levels) C) (read (dimsOf p) (p .levels) (splitAfter b c levels C o))
     unfolding read
     demand-3 =
-        let d : Pos = rootsOf p in
+        let d : Pos = dimsOf p in
         let l : ℕ = p .levels in
         let r : List ℕ = drop (p .octants) o in
         rw split-is
@@ -89,11 +94,11 @@ module _ (b : Bounds) (c : Float) (levels : ℕ) (C o : List ℕ) where
 -- the Rust's balance of the octree that the answers split: its rounds over a snapshot end, and wherever they end is our split table
 module _ (p : Plan) (C : List ℕ) where
   abbrev pub answered : Tree
-  answered = raw (p .levels) (read (rootsOf p) (p .levels) C)
+  answered = raw (p .levels) (read (dimsOf p) (p .levels) C)
 
-  pub rounds-end : (t : Tree) × Rounds (p .levels) (rootsOf p) answered t
+  pub rounds-end : (t : Tree) × Rounds (p .levels) (dimsOf p) answered t
   unfolding read
-  rounds-end = rounds-refined (p .levels) (rootsOf p) (read (rootsOf p) (p .levels) C) (λ x. refl) .ends
+  rounds-end = rounds-refined (p .levels) (dimsOf p) (read (dimsOf p) (p .levels) C) (λ x. refl) .ends
 
-  pub rounds-split : (t : Tree) → Rounds (p .levels) (rootsOf p) answered t → table (rootsOf p) (p .levels) t ≡ splitOf p C
-  rounds-split t r = rounds-table (rootsOf p) (p .levels) C t r
+  pub rounds-split : (t : Tree) → Rounds (p .levels) (dimsOf p) answered t → table (dimsOf p) (p .levels) t ≡ splitOf p C
+  rounds-split t r = rounds-table (dimsOf p) (p .levels) C t r

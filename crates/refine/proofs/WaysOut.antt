@@ -12,18 +12,17 @@ use Rattle.refusals.specs.Rows.{first, proper}
 use Rattle.lists.specs.Tables.{front, on}
 use Rattle.refusals.proofs.Rows.{clear, unless-none, unless-some}
 use Rattle.lists.proofs.Lent.{as-lent, as-new}
-use Rattle.plan.specs.Plan.{planOf}
-use Rattle.plan.specs.Plan as plan
+use Rattle.plan.specs.Step.{planOf}
+use Rattle.plan.specs.Step as plan
 use Rattle.plan.specs.declared.Bounds.{Bounds}
 use Rattle.plan.specs.declared.Plan.{Plan}
 use Rattle.plan.specs.declared.Planned.{Planned}
 use Rattle.plan.specs.declared.Planned.the-variants as planned
-use Rattle.plan.proofs.Ready.{ReadyPlan, ready}
-use Rattle.space.specs.Levels.{mostRoots, off}
-use Rattle.space.proofs.Space.{on-all}
+use Rattle.plan.specs.Parts.{Planful}
+use Rattle.plan.proofs.Ready.{ready}
 use Rattle.octree.specs.Rows.{answerRows}
 use Rattle.refine.specs.Parts.{TableAsked, TableDone}
-use Rattle.refine.specs.Step.{numberOf, rootsOf, splitOf, answerFor, refinedOf, splitFor, RefineDone}
+use Rattle.refine.specs.Step.{numberOf, splitOf, answerFor, refinedOf, splitFor, RefineDone}
 use Rattle.refine.specs.declared.Refined.{Refined}
 use Rattle.refine.specs.declared.Refined.the-variants.{Done, Refused, Short}
 
@@ -42,23 +41,12 @@ module _ (b : Bounds) (c : Float) (levels : ℕ) (C o : List ℕ) where
         → TableAsked (record { nx = p .nx; ny = p .ny; nz = p .nz; levels = p .levels }) C (take (p .octants) o)
     unfolding answerRows first proper
     asked z h =
-        let r : ReadyPlan levels p = ready b c levels p e in
+        let r : Planful p = ready b c levels p e in
         let k = clear (answerRows (p .octants) C) refl z in
         let n : length C ≡ p .octants = eqb-true _ _ (not-false _ (k 0)) in
-        let f : p .levels ≡ levels = r .levels-are in
-        let m : length C ≡ off (rootsOf p) (p .levels) = n ∙ r .octants-are ∙ ap (off (rootsOf p)) (sym f) in
         record {
-          covers = λ i.
-              let j : 1 ≤ levels = omega arith in
-              record {
-                roots = record {
-                  some = on-all (λ a. 1 ≤ rootsOf p a) (r .x .some) (r .y .some) (r .z .some);
-                  few = on-all (λ a. rootsOf p a ≤ mostRoots) (r .x .roots j) (r .y .roots j) (r .z .roots j);
-                };
-                levels = omega (arith, r .levels-few);
-                octants = m;
-              };
-          octants = m;
+          covers = λ i. record { roots = r .roots i; levels = r .levels-few; octants = n ∙ r .octants-are };
+          octants = n ∙ r .octants-are;
           few = omega (arith, r .octants-few);
           same = length-take-le (p .octants) o h ∙ sym n;
           answers = not-false _ (k 1);

@@ -9,10 +9,10 @@ use lib.Ieee.{Float}
 use lib.ListN.{length}
 use Rattle.refusals.specs.Rows.{Row, _when_, first, unless}
 use Rattle.lists.specs.Tables.{front, on}
-use Rattle.plan.specs.Plan.{planOf, planRows, onPlan}
+use Rattle.plan.specs.Step.{planOf, planRows, onPlan}
+use Rattle.plan.specs.Vertices.{dimsOf}
 use Rattle.plan.specs.declared.Bounds.{Bounds}
 use Rattle.plan.specs.declared.Plan.{Plan}
-use Rattle.space.specs.Space.{Pos, pos}
 use Rattle.octants.specs.Table.{refineOf, total}
 use Rattle.octree.specs.Rows.{answerRows}
 use Rattle.refine.specs.declared.Refined.{Refined}
@@ -37,12 +37,9 @@ valuesOf (Done ones) = ones ∷ []
 valuesOf (Refused number) = []
 valuesOf (Short octants) = octants ∷ []
 
-abbrev pub rootsOf : Plan → Pos
-rootsOf p = pos (p .nx) (p .ny) (p .nz)
-
 -- the split table of a crossing table: the raw refinement, balanced from the finest level up
 abbrev pub splitOf : Plan → List ℕ → List ℕ
-splitOf p C = refineOf (rootsOf p) (p .levels) C
+splitOf p C = refineOf (dimsOf p) (p .levels) C
 
 -- refused, short of room, or so many ones
 unfoldable pub answerFor : Plan → List ℕ → List ℕ → Refined

@@ -8,7 +8,7 @@ use Rattle.refusals.specs.declared.Counted.{Counted}
 use Rattle.plan.specs.declared.Bounds.{Bounds}
 use Rattle.plan.specs.declared.Plan.{Plan}
 use Rattle.plan.specs.declared.Planned.{Planned}
-use Rattle.plan.specs.Plan.{planOf}
+use Rattle.plan.specs.Step.{planOf}
 use Rattle.refine.specs.declared.Refined.{Refined}
 use Rattle.refine.specs.Step.{RefineDone}
 use Rattle.refine.proofs.Theorems.{refine-one}

@@ -1,6 +1,6 @@
 // Plans, octrees and grids.
 ghost use mathlib.Core.Path.{_≡_};
-ghost use Rattle.plan.specs.Plan.{planOf};
+ghost use Rattle.plan.specs.Step.{planOf};
 ghost use Rattle.refine.specs.Step.{RefineDone};
 ghost use Rattle.grid.specs.Step.{GridDone};
 ghost use Rattle.sporeferry.specs.Calls.{Called, planned, refined, gridded};

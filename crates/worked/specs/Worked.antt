@@ -8,7 +8,7 @@ use lib.Ieee.{Float, add, sub, mul, div, neg, lt, ofInt, ofBits}
 use Rattle.float32.specs.Operations.{f32}
 use Rattle.float32.specs.Ceiling.{ceilTo}
 use Rattle.space.specs.Levels.{off}
-use Rattle.plan.specs.Plan.{allFinite, scaleOf, dimsOf, fitsOn, axisOf, straight, straightBox, counted, axesOf, planOf}
+use Rattle.plan.specs.Step.{allFinite, scaleOf, dimOf, fitsOn, stretchOf, straight, straightBox, counted, axesOf, planOf}
 use Rattle.space.specs.Space.{Pos, pos}
 use Rattle.grid.specs.Grid.{gridCells, gridVertices}
 use Rattle.plan.specs.declared.Bounds.{Bounds}
@@ -117,7 +117,7 @@ table =
     ∷ []
 
 worked : Every Says table
-unfolding Says table ofBits add sub mul div neg lt ofInt ceilTo allFinite scaleOf dimsOf fitsOn axisOf off straight straightBox counted axesOf planOf run those place noted seenOf numbersOf any shares touched takenOver addCell labels labelAt componentNumbers isHighest representativesOf pointOf cornersOf volumeOf sizeOf verdictOf verdictAt shaped shapeAt finalCells firstUses usedOf renumbered boxUp latticeVertices indexOf inRange complete octahedron axisCells centreCells latticeCells flat
+unfolding Says table ofBits add sub mul div neg lt ofInt ceilTo allFinite scaleOf dimOf fitsOn stretchOf off straight straightBox counted axesOf planOf run those place noted seenOf numbersOf any shares touched takenOver addCell labels labelAt componentNumbers isHighest representativesOf pointOf cornersOf volumeOf sizeOf verdictOf verdictAt shaped shapeAt finalCells firstUses usedOf renumbered boxUp latticeVertices indexOf inRange complete octahedron axisCells centreCells latticeCells flat
 worked =
     row refl (row refl (row refl (row refl (row refl (row octree-six (row root-and-child (row child-alone
     (row refl (row refl (row refl (row refl (row refl (row refl (row refl (row refl (row refl done))))))))))))))))

@@ -15,9 +15,6 @@ use Rattle.float32.proofs.ceiling.Lts as lts
 held : (c : tie.Start) → T (fits binary32 (c .args .x))
 held c = subst T (sym (c .good .0 .1)) tt
 
-add-result : tie.Need-add-result
-add-result c = search needs
-
 returns : tie.Need-returns
 returns c =
     let a = c .before .args in
@@ -31,13 +28,13 @@ returns-2 c =
     let s = c .before .before in
     negative (s .args .most) (s .args .x) (held s) (c .if2 .taken) (no-nan (s .args .x) (c .before .if1 .left))
 
-add-result-2 : tie.Need-add-result-2
-add-result-2 c = search needs
+add-result : tie.Need-add-result
+add-result c = search needs
 
 returns-3 : tie.Need-returns-3
 returns-3 c =
     let s = c .before .before .before in
-    beyond (s .args .most) (s .args .x) (held s) (c .before .if2 .left) (s .pre) (c .if3 .taken)
+    beyond (s .args .most) (s .args .x) (held s) (c .before .if2 .left) (no-nan (s .args .x) (c .before .before .if1 .left)) (s .pre) (c .if3 .taken)
 
 returns-4 : tie.Need-returns-4
 returns-4 c =
@@ -71,8 +68,8 @@ add-n c =
 shr-n : tie.Need-shr-n
 shr-n c = search needs
 
-add-result-3 : tie.Need-add-result-3
-add-result-3 c = search needs
+add-result-2 : tie.Need-add-result-2
+add-result-2 c = search needs
 
 returns-6 : tie.Need-returns-6
 returns-6 c =
@@ -88,11 +85,10 @@ pub ceiling-spec : {M : Type 1} → statement M
 ceiling-spec =
     tie.close
     (tie.spec
-    add-result
     returns
     float-to-bits-bits
     returns-2
-    add-result-2
+    add-result
     returns-3
     returns-4
     returns-5
@@ -102,6 +98,6 @@ ceiling-spec =
     sub-n
     add-n
     shr-n
-    add-result-3
+    add-result-2
     returns-6
     returns-7)

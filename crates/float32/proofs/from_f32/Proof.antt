@@ -2,10 +2,9 @@
 -- Assumes nothing.
 use borrow.Author.Needs.{needs}
 use mathlib.Core.Path.{_≡_, refl, sym, ap, _∙_, subst}
-use mathlib.Core.Bool.{Bool, true, false, not}
 use lib.Dec.{T}
-use lib.Ieee.{Float, nan, inf, fin, binary32, toBits, isNan, ne}
-use lib.Ieee.Compare.{differs-from-itself, nan-differs}
+use lib.Ieee.{nan, binary32, toBits}
+use lib.Ieee.Compare.{differs-from-itself}
 use Rattle.float32.proofs.Floats.{no-nan}
 use Rattle.float32.proofs.from_f32.Statement.{statement}
 use Rattle.float32.proofs.from_f32.Tie as tie

@@ -1,5 +1,5 @@
 use mathlib.Core.Path.{sym, ap, _∙_}
-use Rattle.plan.specs.Plan.{numberOf}
+use Rattle.plan.specs.Step.{numberOf}
 use Rattle.grid.proofs.Steps.{planful, levels-are, short-table, taken, plan-refused, split-refused, filled, filled-lattice}
 use borrow.Author.Needs.{needs}
 use Rattle.grid.proofs.grid.Statement.{statement}

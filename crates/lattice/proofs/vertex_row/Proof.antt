@@ -5,7 +5,7 @@ use native.Mathlib.Omega.{arith}
 use lib.Seq.{sets}
 use Rattle.lists.specs.Runs.{run, Storing}
 use Rattle.lists.proofs.Running.{loop-start, loop-next, loop-room, loop-done, storing-length}
-use Rattle.plan.specs.Plan.{placeOf}
+use Rattle.plan.specs.Vertices.{placeOf}
 use Rattle.lattice.specs.Storing.{rowTriples, rowPoints}
 use Rattle.lattice.proofs.vertex_row.Statement.{statement}
 use Rattle.lattice.proofs.vertex_row.Tie as tie

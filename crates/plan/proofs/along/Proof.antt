@@ -8,7 +8,7 @@ use lib.Dec.{le→leb, lit≤}
 use lib.Ieee.{neg, inFloat}
 use lib.Ieee.Scale.{finite}
 use Rattle.float32.specs.Operations.{_+f_, _*f_, whole32}
-use Rattle.plan.specs.Plan.{allFinite, originOf, extentOf, dimsOf, fitsOn, axisOf}
+use Rattle.plan.specs.Step.{allFinite, originOf, extentOf, dimOf, fitsOn, stretchOf}
 use Rattle.lists.proofs.Tests.{failed, passed, above, within}
 use Rattle.plan.proofs.along.Statement.{statement}
 use Rattle.plan.proofs.along.Tie as tie
@@ -23,8 +23,8 @@ abbrev start : tie.After-larger → tie.Start
 start c = c .before .before .before .before .before .before .before
 
 -- the dimension that the code worked out
-dims-is : (c : tie.After-larger) → c .larger .result ≡ dimsOf (start c .args .s) (start c .args .c) (start c .args .lo) (start c .args .hi)
-unfolding dimsOf
+dims-is : (c : tie.After-larger) → c .larger .result ≡ dimOf (start c .args .s) (start c .args .c) (start c .args .lo) (start c .args .hi)
+unfolding dimOf
 dims-is c = c .larger .ensures ∙ ap (λ (k : ℕ). max (start c .args .s .least) k) (c .before .ceiling .ensures)
 
 all-finite : (c : tie.After-larger) →
@@ -45,7 +45,7 @@ are-finite-requires : tie.Need-are-finite-requires
 are-finite-requires c κs = search needs
 
 returns : tie.Need-returns
-unfolding axisOf fitsOn
+unfolding stretchOf fitsOn
 returns c = simp (failed (c .before .are-finite .ensures) (c .if1 .taken))
 
 ceiling-requires : tie.Need-ceiling-requires
@@ -55,7 +55,7 @@ larger-requires : tie.Need-larger-requires
 larger-requires c κs = search needs
 
 returns-2 : tie.Need-returns-2
-unfolding axisOf fitsOn
+unfolding stretchOf fitsOn
 returns-2 c = simp (all-finite (c .before), above (dims-is (c .before)) (c .if2 .taken))
 
 mul-v : tie.Need-mul-v
@@ -69,7 +69,7 @@ is-finite-requires : tie.Need-is-finite-requires
 is-finite-requires c κs = search needs
 
 returns-3 : tie.Need-returns-3
-unfolding axisOf fitsOn
+unfolding stretchOf fitsOn
 returns-3 c =
     let l = c .before .before .before .before .before .before in
     simp (
@@ -79,7 +79,7 @@ returns-3 c =
     )
 
 returns-4 : tie.Need-returns-4
-unfolding axisOf fitsOn
+unfolding stretchOf fitsOn
 returns-4 c =
     let l = c .before .before .before .before .before .before in
     simp (

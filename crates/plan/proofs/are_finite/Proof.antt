@@ -1,6 +1,6 @@
 use borrow.Author.Needs.{needs}
 use Rattle.lists.proofs.Tests.{failed, passed}
-use Rattle.plan.specs.Plan.{allFinite}
+use Rattle.plan.specs.Step.{allFinite}
 use Rattle.plan.proofs.are_finite.Statement.{statement}
 use Rattle.plan.proofs.are_finite.Tie as tie
 use Rattle.plan.proofs.are_finite.Reads as reads

@@ -1,6 +1,6 @@
 use borrow.Author.Needs.{needs}
 use Rattle.lists.proofs.Tests.{failed, passed}
-use Rattle.plan.specs.Plan.{straightBox}
+use Rattle.plan.specs.Step.{straightBox}
 use Rattle.plan.proofs.is_box.Statement.{statement}
 use Rattle.plan.proofs.is_box.Tie as tie
 use Rattle.plan.proofs.is_box.Reads as reads

@@ -1,6 +1,6 @@
 use borrow.Author.Needs.{needs}
 use Rattle.lists.proofs.Tests.{failed, passed}
-use Rattle.plan.specs.Plan.{straight}
+use Rattle.plan.specs.Step.{straight}
 use Rattle.plan.proofs.is_straight.Statement.{statement}
 use Rattle.plan.proofs.is_straight.Tie as tie
 use Rattle.plan.proofs.is_straight.Reads as reads

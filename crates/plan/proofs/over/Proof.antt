@@ -1,5 +1,5 @@
 use borrow.Author.Needs.{needs}
-use Rattle.plan.specs.Plan.{axesOf, counted}
+use Rattle.plan.specs.Step.{axesOf, counted}
 use Rattle.lists.proofs.Tests.{above, within, told}
 use Rattle.plan.proofs.Axes.{few-three, covered}
 use Rattle.plan.proofs.over.Statement.{statement}

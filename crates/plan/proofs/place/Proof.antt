@@ -1,7 +1,7 @@
 use lib.Ieee.{inFloat}
 use lib.Dec.{le→leb}
 use Prim.Native.Nat.{_^_}
-use Rattle.plan.specs.Plan.{placeOf}
+use Rattle.plan.specs.Vertices.{placeOf}
 use borrow.Author.Needs.{needs}
 use Rattle.plan.proofs.place.Statement.{statement}
 use Rattle.plan.proofs.place.Tie as tie

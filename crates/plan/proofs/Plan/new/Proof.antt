@@ -2,7 +2,8 @@ use borrow.Author.Needs.{needs}
 use Rattle.lists.proofs.Tests.{failed, passed}
 use mathlib.Core.Path.{sym, subst, _∙_, ap}
 use borrow.Author.Tests.{lt-leb, le-leb}
-use Rattle.plan.specs.Plan.{Small, axesOf, planOf}
+use Rattle.plan.specs.Step.{axesOf, planOf}
+use Rattle.plan.specs.Parts.{Small}
 use Rattle.plan.specs.declared.Scale.{Scale}
 use Rattle.plan.proofs.Axes.{scale-small}
 use Rattle.plan.proofs.Plan.new.Statement.{statement}

@@ -1,33 +1,47 @@
 -- The plan: from a box, a cell size c and a number of levels to an origin, a unit and dimensions, or to a refusal. Every operation on
 -- floats is one of binary32, in the order written.
-use Prim.Native.Nat.{ℕ, _+_, _*_, _^_, _≤_, max}
+use Prim.Native.Nat.{ℕ, _*_, _^_, max}
 use mathlib.Core.Bool.{Bool, not, _&&_, cond}
 use mathlib.Core.List.{List, [], _∷_}
 use lib.Dec.{leb, ltb, eqb}
-use lib.Ieee.{Float, binary32, toBits, neg, lt}
+use lib.Ieee.{Float, binary32, neg, lt}
 use lib.Ieee.Scale.{finite}
 use lib.Ieee.Positive.{positive}
 use Rattle.float32.specs.Operations.{zero32, _+f_, _-f_, _*f_, _/f_, whole32, half32, two32}
 use Rattle.float32.specs.Ceiling.{ceilTo}
-use Rattle.space.specs.Space as space
-use Rattle.space.specs.Space.{pos}
+use Rattle.space.specs.Space.{Axis, ax, ay, az, Pos, pos}
 use Rattle.space.specs.Levels.{mostLevels, mostRoots, mostOctants, off}
 use Rattle.refusals.specs.Rows.{Row, _when_}
 use Rattle.plan.specs.declared.Bounds.{Bounds}
 use Rattle.plan.specs.declared.Scale.{Scale}
-use Rattle.plan.specs.declared.Axis.{Axis}
-use Rattle.plan.specs.declared.Axis.the-variants.{Covers, TooLong}
+use Rattle.plan.specs.declared.Stretch.{Stretch}
+use Rattle.plan.specs.declared.Stretch.the-variants.{Covers, TooLong}
 use Rattle.plan.specs.declared.Plan.{Plan}
 use Rattle.plan.specs.declared.Planned.{Planned}
 use Rattle.plan.specs.declared.Planned.the-variants.{Ready, Refused}
 
--- ---- the bounds of a call: those of an octree stand with its levels
-
+-- the most units of a lattice along an axis; the bounds of an octree stand with its levels
 abbrev pub mostLattice : ℕ
 mostLattice = 128
 
-unfoldable pub allFinite : Float → Float → Float → Float → Bool
-allFinite a b c d = finite a && (finite b && (finite c && finite d))
+-- ---- the box, by axes
+
+abbrev pub low : Bounds → Axis → Float
+low b ax = b .x0
+low b ay = b .y0
+low b az = b .z0
+
+abbrev pub high : Bounds → Axis → Float
+high b ax = b .x1
+high b ay = b .y1
+high b az = b .z1
+
+-- the bounds of an axis are finite, and the lower one is not above the upper one
+unfoldable pub straight : Float → Float → Bool
+straight lo hi = finite lo && (finite hi && not (lt hi lo))
+
+unfoldable pub straightBox : Bounds → Bool
+straightBox b = straight (low b ax) (high b ax) && (straight (low b ay) (high b ay) && straight (low b az) (high b az))
 
 -- ---- what holds for all three axes
 
@@ -50,12 +64,6 @@ octreeScale c levels =
 unfoldable pub scaleOf : Float → ℕ → Scale
 scaleOf c levels = cond (eqb levels 0) (latticeScale c) (octreeScale c levels)
 
--- what a scale never exceeds
-pub record Small (s : Scale) : Type 0 where
-  pub most-small : s .most ≤ mostLattice
-  pub least-small : s .least ≤ 2
-  pub units-small : s .units ≤ 64
-
 -- ---- one axis, from lo to hi
 
 abbrev pub originOf : Scale → Float → Float → Float
@@ -64,43 +72,35 @@ originOf s c lo = lo +f neg c -f s .margin
 abbrev pub extentOf : Scale → Float → Float → Float → Float
 extentOf s c lo hi = (hi +f c -f (lo +f neg c)) +f s .margin *f two32
 
-unfoldable pub dimsOf : Scale → Float → Float → Float → ℕ
-dimsOf s c lo hi = max (s .least) (ceilTo (s .most) (extentOf s c lo hi /f s .width))
+unfoldable pub dimOf : Scale → Float → Float → Float → ℕ
+dimOf s c lo hi = max (s .least) (ceilTo (s .most) (extentOf s c lo hi /f s .width))
 
 abbrev pub farOf : Scale → Float → Float → Float → Float
-farOf s c lo hi = originOf s c lo +f whole32 (dimsOf s c lo hi * s .units) *f s .half
+farOf s c lo hi = originOf s c lo +f whole32 (dimOf s c lo hi * s .units) *f s .half
+
+unfoldable pub allFinite : Float → Float → Float → Float → Bool
+allFinite a b c d = finite a && (finite b && (finite c && finite d))
 
 -- the domain's bounds, the origin, the extent and the far corner are finite, and the dimension is in its bound
 unfoldable pub fitsOn : Scale → Float → Float → Float → Bool
 fitsOn s c lo hi =
     allFinite (lo +f neg c) (hi +f c) (originOf s c lo) (extentOf s c lo hi)
-    && (leb (dimsOf s c lo hi) (s .most) && finite (farOf s c lo hi))
+    && (leb (dimOf s c lo hi) (s .most) && finite (farOf s c lo hi))
 
-unfoldable pub axisOf : Scale → Float → Float → Float → Axis
-axisOf s c lo hi = cond (fitsOn s c lo hi) (Covers (originOf s c lo) (dimsOf s c lo hi)) TooLong
+unfoldable pub stretchOf : Scale → Float → Float → Float → Stretch
+stretchOf s c lo hi = cond (fitsOn s c lo hi) (Covers (originOf s c lo) (dimOf s c lo hi)) TooLong
 
--- ---- a vertex
+-- ---- the three of them
 
--- where the whole number v stands along an axis, as a bit pattern
-unfoldable pub placeOf : Float → Float → ℕ → ℕ
-placeOf origin half v = toBits binary32 (origin +f whole32 v *f half)
+-- along axis a of the box
+abbrev pub fitsAt : Scale → Bounds → Float → Axis → Bool
+fitsAt s b c a = fitsOn s c (low b a) (high b a)
 
--- what the dimensions and the levels of a grid never exceed
-pub record Few (nx ny nz levels : ℕ) : Type 0 where
-  pub dims-few : (a : space.Axis) → pos nx ny nz a ≤ mostLattice
-  pub levels-few : levels ≤ mostLevels
-
--- ---- the refusals, the lowest first
-
--- the bounds of an axis are finite, and the lower one is not above the upper one
-unfoldable pub straight : Float → Float → Bool
-straight lo hi = finite lo && (finite hi && not (lt hi lo))
-
-unfoldable pub straightBox : Bounds → Bool
-straightBox b = straight (b .x0) (b .x1) && (straight (b .y0) (b .y1) && straight (b .z0) (b .z1))
+abbrev pub stretchAt : Scale → Bounds → Float → Axis → Stretch
+stretchAt s b c a = stretchOf s c (low b a) (high b a)
 
 -- refusal 4 of an axis that does not fit, else what is made of its origin and dimension
-abbrev pub onAxis : Axis → (Float → ℕ → Planned) → Planned
+abbrev pub onAxis : Stretch → (Float → ℕ → Planned) → Planned
 onAxis TooLong k = Refused 4
 onAxis (Covers o n) k = k o n
 
@@ -109,9 +109,9 @@ counted p = cond (leb (p .octants) mostOctants) (Ready p) (Refused 4)
 
 unfoldable pub axesOf : Scale → Bounds → Float → ℕ → Planned
 axesOf s b c levels =
-    onAxis (axisOf s c (b .x0) (b .x1)) λ ox nx.
-    onAxis (axisOf s c (b .y0) (b .y1)) λ oy ny.
-    onAxis (axisOf s c (b .z0) (b .z1)) λ oz nz.
+    onAxis (stretchAt s b c ax) λ ox nx.
+    onAxis (stretchAt s b c ay) λ oy ny.
+    onAxis (stretchAt s b c az) λ oz nz.
     counted
     (record {
       ox = ox;
@@ -131,7 +131,7 @@ planOf b c levels =
     (cond (straightBox b) (cond (leb levels mostLevels) (axesOf (scaleOf c levels) b c levels) (Refused 3)) (Refused 2))
     (Refused 1)
 
--- the number of a refusal, and 0 where the plan is ready
+-- document 01's number and values of each answer
 abbrev pub numberOf : Planned → ℕ
 numberOf (Ready p) = 0
 numberOf (Refused n) = n
@@ -149,13 +149,16 @@ onPlan (Refused n) refused answer = refused n
 
 -- ---- exactly when
 
+-- the dimension along axis a, and those of the three
+abbrev pub dimAt : Scale → Bounds → Float → Axis → ℕ
+dimAt s b c a = dimOf s c (low b a) (high b a)
+
+abbrev pub dimsAt : Scale → Bounds → Float → Pos
+dimsAt s b c = pos (dimAt s b c ax) (dimAt s b c ay) (dimAt s b c az)
+
 -- all three axes fit, and the octants are in their bound
 unfoldable pub fitsAll : Scale → Bounds → Float → ℕ → Bool
-fitsAll s b c levels =
-    fitsOn s c (b .x0) (b .x1)
-    && (fitsOn s c (b .y0) (b .y1)
-    && (fitsOn s c (b .z0) (b .z1)
-    && leb (off (pos (dimsOf s c (b .x0) (b .x1)) (dimsOf s c (b .y0) (b .y1)) (dimsOf s c (b .z0) (b .z1))) levels) mostOctants))
+fitsAll s b c levels = fitsAt s b c ax && (fitsAt s b c ay && (fitsAt s b c az && leb (off (dimsAt s b c) levels) mostOctants))
 
 -- refusals 1 to 4, in their order, each with its cause
 unfoldable pub planRows : Bounds → Float → ℕ → List Row
