@@ -6,8 +6,7 @@ use Prim.Native.Nat.{ℕ, suc, _*_, _/_, _≤_, _<_}
 use lib.ListN.{length, getD, set, take, drop, replicate}
 use lib.Seq.{sets}
 use Rattle.mesh.specs.Mesh.{cellsOf, most, Cells}
-use Rattle.links.specs.Forest.{Forest, Level, Levelled}
-use Rattle.links.specs.Vertices.{Joint}
+use Rattle.links.specs.Parts.{Forest, Level, Levelled, Joint}
 use Rattle.components.specs.Numbers.{componentNumbers, componentCount}
 
 -- the number k of r, and the table after it: one more than the number, and 0 where there is none

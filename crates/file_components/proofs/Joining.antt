@@ -1,15 +1,16 @@
 -- Cells that stand in a file as words. Assumes nothing.
-use mathlib.Core.Path.{_≡_, refl, sym, ap, subst₂, _∙_}
+use mathlib.Core.Path.{_≡_, refl, sym, ap, _∙_}
 use mathlib.Core.Logic.{_⊎_, inl, inr, _≢_}
 use mathlib.Core.Bool.{Bool, true, false}
 use mathlib.Core.List.{List, []}
 use Prim.Native.Nat.{ℕ, suc, _+_, _*_, _/_, _%_, _≤_, _<_}
 use native.Mathlib.Omega.{arith}
 use lib.ListN.{length, getD}
-use Rattle.mesh.specs.Mesh.{cellsOf, most, Cells}
+use Rattle.mesh.specs.Mesh.{cellsOf, most, Cells, cellOf}
+use Rattle.mesh.proofs.Named.{cell-is}
 use Rattle.words.specs.Words.{wordAt, placeOf, wordsAt, spanOf}
 use Rattle.words.proofs.Words.{in-span, words-at, length-words}
-use Rattle.links.specs.Vertices.{JoinedCell}
+use Rattle.links.specs.Parts.{JoinedCell}
 use Rattle.links.proofs.Vertexes.{joined-cell}
 
 -- the first words of more
@@ -38,14 +39,15 @@ module _ (big led : Bool) (b : List ℕ) (at n i : ℕ) (h : i < n) where
         omega (arith, words-less big led b at (4 * n) (i * 4 + 4) p (omega arith) g, v .names p (omega (arith, length-words big led b at (4 * n))));
   }
 
-  same-word : (s : ℕ) → s < 4 → getD (wordsAt big led b at (i * 4 + 4)) (i * 4 + s) 0 ≡ getD (wordsAt big led b at (4 * n)) (i * 4 + s) 0
-  same-word s k = words-less big led b at (4 * n) (i * 4 + 4) (i * 4 + s) (omega arith) (omega arith)
+  same-cell : cellOf (wordsAt big led b at (i * 4 + 4)) i ≡ cellOf (wordsAt big led b at (4 * n)) i
+  unfolding cellOf
+  same-cell =
+      let same : (s : ℕ) → s < i * 4 + 4 → getD (wordsAt big led b at (i * 4 + 4)) s 0 ≡ getD (wordsAt big led b at (4 * n)) s 0 =
+      λ s k. words-less big led b at (4 * n) (i * 4 + 4) s (omega arith) k in
+      cell-is (wordsAt big led b at (4 * n)) i (4 * i) refl (same (4 * i) (omega arith)) (same (4 * i + 1) (omega arith)) (same (4 * i + 2) (omega arith)) (same (4 * i + 3) (omega arith))
 
   pub joined-more : {P P′ : List ℕ} → JoinedCell (wordsAt big led b at (i * 4 + 4)) [] P P′ i → JoinedCell (wordsAt big led b at (4 * n)) [] P P′ i
-  joined-more {P} {P′} j =
-      joined-cell _ [] P P′ i _ _ _ _ refl
-      (words-less big led b at (4 * n) (i * 4 + 4) (i * 4) (omega arith) (omega arith)) (same-word 1 (omega arith)) (same-word 2 (omega arith)) (same-word 3 (omega arith))
-      (j .joined refl)
+  joined-more {P} {P′} j = joined-cell _ [] P P′ i refl same-cell (j .joined refl)
 
 -- ---- `join_cell`
 

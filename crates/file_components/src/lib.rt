@@ -8,11 +8,11 @@ ghost use lib.Seq.{sets};
 ghost use Rattle.mesh.specs.Mesh.{cellsOf, Cells};
 ghost use Rattle.lists.specs.Tables.{same, allBelow};
 ghost use Rattle.words.specs.Words.{bytesOf, wordsAt, spanOf};
-ghost use Rattle.links.specs.Forest.{Forest};
-ghost use Rattle.links.specs.Vertices.{JoinedCell, Joint};
+ghost use Rattle.links.specs.Parts.{Forest, JoinedCell, Joint};
 ghost use Rattle.components.specs.Parts.{Linked, Fits};
 ghost use Rattle.components.specs.Numbers.{componentNumbers};
 ghost use Rattle.file_components.specs.Stored.{Told, Noted};
+use mesh::Cell;
 
 // Joins the vertices of the cell i.
 fn join_cell(file: &[u8], at: usize, big: bool, led: bool, parent: &mut [u32], i: usize)
@@ -24,10 +24,7 @@ fn join_cell(file: &[u8], at: usize, big: bool, led: bool, parent: &mut [u32], i
     let b = lists::wide(words::word_of(file, at, big, led, first + 1));
     let c = lists::wide(words::word_of(file, at, big, led, first + 2));
     let d = lists::wide(words::word_of(file, at, big, led, first + 3));
-    if links::is_joined(parent, a, b, c, d) {
-        return;
-    }
-    links::join_four(parent, a, b, c, d);
+    links::join_four(parent, Cell { a, b, c, d });
 }
 
 // The groups of the points that cells in a file join, from a table that holds anything.

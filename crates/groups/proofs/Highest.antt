@@ -6,7 +6,7 @@ use native.Mathlib.Omega.{arith}
 use lib.ListN.{length, getD}
 use Rattle.links.specs.Labels.{labelAt, labels}
 use Rattle.links.specs.Walks.{Walk, here, fore, back, Groups, Share}
-use Rattle.links.specs.Vertices.{SameCell}
+use Rattle.links.specs.Parts.{SameCell}
 use Rattle.links.proofs.Walking.{one-label}
 use Rattle.links.proofs.Defined.{labelling, label-in, label-lt}
 use Rattle.links.proofs.Patterns.{onto-vertices, onto-cells}

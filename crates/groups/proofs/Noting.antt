@@ -11,8 +11,7 @@ use Rattle.mesh.specs.Mesh.{cellsOf, most}
 use Rattle.lists.proofs.Cases.{eqOr, ltOr, below-set}
 use Rattle.links.specs.Labels.{labelAt}
 use Rattle.links.specs.Walks.{Groups}
-use Rattle.links.specs.Forest.{Forest, Roots, Rooted}
-use Rattle.links.specs.Vertices.{SameCell, Joint}
+use Rattle.links.specs.Parts.{Forest, Roots, Rooted, SameCell, Joint}
 use Rattle.groups.specs.Parts.{Sized, Linked, RootNoted, Rooting, LastNoted, Labelled}
 use Rattle.groups.proofs.Highest.{Last, last-is}
 

@@ -5,16 +5,20 @@ use mathlib.Core.Logic.{_≢_}
 use mathlib.Core.List.{List}
 use Prim.Native.Nat.{ℕ, _+_, _*_, _≤_, _<_}
 use lib.ListN.{length, getD, set, take, drop}
-use Rattle.mesh.specs.Mesh.{cellsOf, most, Cells}
+use Rattle.mesh.specs.Mesh.{pointsOf, cellsOf, most, Cells}
 use Rattle.links.specs.Labels.{labelAt}
 use Rattle.links.specs.Walks.{Groups}
-use Rattle.links.specs.Forest.{Forest, Rooted}
-use Rattle.links.specs.Vertices.{SameCell, Joint}
+use Rattle.links.specs.Parts.{Forest, Rooted, SameCell, Joint}
 
 -- the cells, and as much work as they ask for
 pub record Sized (C w : List ℕ) (n : ℕ) : Type 0 where
   pub cells : Cells C n
   pub long : length w ≡ n + cellsOf C
+
+-- the same where the cells name points of the table P
+pub record Laid (P C w : List ℕ) (n : ℕ) : Type 0 where
+  pub points : n ≡ pointsOf P
+  pub sized : Sized C w n
 
 -- the points are linked
 pub record Linked (C X w : List ℕ) (n : ℕ) : Type 0 where

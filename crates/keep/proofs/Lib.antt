@@ -1,4 +1,4 @@
 -- Laws that the proofs of keep share.
 pub mod Marking
-pub mod Steps
-pub mod Meaning
+pub mod WaysOut
+pub mod Theorems

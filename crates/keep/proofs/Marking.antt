@@ -16,8 +16,9 @@ use Rattle.lists.proofs.Cases.{eqOr, below-set}
 use Rattle.links.specs.Labels.{labelAt}
 use Rattle.groups.specs.Parts.{Sized, Labelled}
 use Rattle.groups.proofs.Highest.{label-below}
-use Rattle.marked.specs.Weighed.{markedIn}
-use Rattle.keep.specs.Marked.{crustMark, isInside, coverMark, coverIn, ProbeAsked, CoverAsked, MarksOf}
+use Rattle.marked.specs.Parts.{markedIn}
+use Rattle.keep.specs.Marked.{crustMark, isInside, coverMark}
+use Rattle.keep.specs.Parts.{coverIn, ProbeAsked, CoverAsked, MarksOf}
 
 -- ---- marks, one after the other
 

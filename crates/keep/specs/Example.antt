@@ -10,14 +10,15 @@ use Rattle.refusals.specs.Rows.{first, unless}
 use Rattle.refusals.specs.Causes.{workRows, eachRows, answerRows}
 use Rattle.mesh.specs.Judged.{countRows, wholeRows, sizeRows, nameRows}
 use Rattle.lists.specs.Tables.{allBelow, among}
-use Rattle.lists.specs.Runs.{run}
+use Rattle.lists.specs.Runs.{run, those, spread}
 use Rattle.lists.specs.Appearance.{place, noted}
 use Rattle.lists.specs.Tests.{any}
 use Rattle.links.specs.Labels.{shares, touched, takenOver, addCell, labels, labelAt}
+use Rattle.mesh.specs.Mesh.{cellOf, inOrder}
 use Rattle.volume.specs.Cell.{pointOf, cornersOf}
 use Rattle.volume.specs.Volume.{volumeOf, sizeOf, verdictOf, verdictAt}
 use Rattle.marked.specs.Used.{firstUses, usedOf, renumbered, pointBits, pointsAt}
-use Rattle.marked.specs.Weighed.{shaped, isDropped, shapeAt, lostAt, finalCells, droppedCells}
+use Rattle.marked.specs.Weighed.{shaped, isDropped, shapeAt, dropsAt, finalCells, droppedCount}
 use Rattle.marked.specs.Kept.{numberOf, valuesOf, keptOf, pointsAfter, cellsAfter}
 use Rattle.keep.specs.Marked.{crustMark, isInside, coverMark}
 use Rattle.keep.specs.Step.{cellSizeRows, coverRows, keepOf, coverOf, coverCells, workAfter}
@@ -84,5 +85,5 @@ asked k =
     (pointsAfter a (k .points) F p) (cellsAfter a F q) (workAfter a (k .points) (k .cells) w)
 
 examples : map asked table ≡ table
-unfolding ofBits add sub mul div neg lt first unless countRows wholeRows workRows sizeRows eachRows answerRows nameRows allBelow among run place noted any shares touched takenOver addCell labels labelAt pointOf cornersOf volumeOf sizeOf verdictOf verdictAt firstUses usedOf renumbered pointBits pointsAt shaped isDropped shapeAt lostAt finalCells droppedCells keptOf crustMark isInside coverMark cellSizeRows coverRows keepOf
+unfolding ofBits add sub mul div neg lt first unless countRows wholeRows workRows sizeRows eachRows answerRows nameRows allBelow among run those spread place noted any shares touched takenOver addCell labels labelAt cellOf inOrder pointOf cornersOf volumeOf sizeOf verdictOf verdictAt firstUses usedOf renumbered pointBits pointsAt shaped isDropped shapeAt dropsAt finalCells droppedCount keptOf crustMark isInside coverMark cellSizeRows coverRows keepOf
 examples = refl

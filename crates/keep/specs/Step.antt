@@ -4,27 +4,25 @@ use mathlib.Core.Path.{_≡_}
 use mathlib.Core.Bool.{not}
 use mathlib.Core.List.{List, [], _∷_, _++_}
 use Prim.Native.Nat.{ℕ, _+_, _*_, _/_}
-use lib.Dec.{eqb}
 use lib.Ieee.{Float}
 use lib.Ieee.Positive.{positive}
 use lib.ListN.{length}
+use Rattle.lists.specs.Tables.{zeroed, on}
 use Rattle.refusals.specs.Rows.{Row, _when_, first, unless}
-use Rattle.refusals.specs.Causes.{eachRows, answerRows, roomRows}
+use Rattle.refusals.specs.Causes.{eachRows, answerRows}
 use Rattle.mesh.specs.Mesh.{pointsOf, cellsOf}
 use Rattle.mesh.specs.Judged.{sizeRows, nameRows}
-use Rattle.lists.specs.Tables.{zeroed, on}
 use Rattle.volume.specs.Volume.{leastOf}
 use Rattle.groups.specs.Judged.{crossedRows}
-use Rattle.marked.specs.Used.{usedOf}
-use Rattle.marked.specs.Weighed.{finalCells, droppedCells}
-use Rattle.marked.specs.Kept.{numberOf, keptOf, pointsAfter, cellsAfter}
-use Rattle.keep.specs.Marked.{crustMark, coverMark}
+use Rattle.marked.specs.Weighed.{finalCells, droppedCount}
+use Rattle.marked.specs.Kept.{numberOf, keptRows, keptOf, pointsAfter, cellsAfter}
 use Rattle.marked.specs.declared.Kept.{Kept}
-use Rattle.marked.specs.declared.Kept.the-variants as kept
+use Rattle.marked.specs.declared.Kept.the-variants.{Refused}
+use Rattle.keep.specs.Marked.{crustMark, coverMark}
 
 -- entries of work: one a cell, and two a point
 abbrev pub needOf : List ℕ → List ℕ → ℕ
-needOf P C = pointsOf P + cellsOf C + pointsOf P
+needOf P C = cellsOf C + 2 * pointsOf P
 
 -- ---- the refusals in their order: p is the length of the table of points, room that of the work
 
@@ -46,50 +44,51 @@ coverRows c p C X Q room =
     ++ (answerRows Q
     ++ nameRows (p / 3) C)))))
 
--- those that need the work: F are the cells that stay, before compaction
-unfoldable pub resultRows : List ℕ → List ℕ → List ℕ → List Row
-resultRows F p q =
-    roomRows (length p / 3) (length (usedOf F)) ++ (roomRows (length q / 4) (length F / 4) ++ (10 when eqb (length F / 4) 0 ∷ []))
-
-abbrev pub keepCrustRows : Float → List ℕ → List ℕ → List ℕ → List ℕ → List ℕ → List ℕ → List ℕ → List Row
-keepCrustRows c P C X F p q w = crustRows c (length P) C X (length w) ++ resultRows F p q
-
-abbrev pub keepCoverRows : Float → List ℕ → List ℕ → List ℕ → List ℕ → List ℕ → List ℕ → List ℕ → List ℕ → List Row
-keepCoverRows c P C X Q F p q w = coverRows c (length P) C X Q (length w) ++ resultRows F p q
-
 -- ---- the outcome
 
--- the cells that stay, and those dropped
+-- the cells that stay, and how many are dropped
 abbrev pub crustCells : Float → List ℕ → List ℕ → List ℕ → List ℕ
 crustCells c P C X = finalCells (crustMark X) (leastOf c) P C (cellsOf C)
 
-abbrev pub crustDropped : Float → List ℕ → List ℕ → List ℕ → List ℕ
-crustDropped c P C X = droppedCells (crustMark X) (leastOf c) P C (cellsOf C)
+abbrev pub crustDropped : Float → List ℕ → List ℕ → List ℕ → ℕ
+crustDropped c P C X = droppedCount (crustMark X) (leastOf c) P C (cellsOf C)
 
 abbrev pub coverCells : Float → List ℕ → List ℕ → List ℕ → List ℕ → List ℕ
 coverCells c P C X Q = finalCells (coverMark C X Q (cellsOf C)) (leastOf c) P C (cellsOf C)
 
-abbrev pub coverDropped : Float → List ℕ → List ℕ → List ℕ → List ℕ → List ℕ
-coverDropped c P C X Q = droppedCells (coverMark C X Q (cellsOf C)) (leastOf c) P C (cellsOf C)
+abbrev pub coverDropped : Float → List ℕ → List ℕ → List ℕ → List ℕ → ℕ
+coverDropped c P C X Q = droppedCount (coverMark C X Q (cellsOf C)) (leastOf c) P C (cellsOf C)
 
--- number is that of the first refusal found before the cells are looked at, or 0
-unfoldable pub keepOf : ℕ → List ℕ → List ℕ → List ℕ → List ℕ → Kept
-keepOf number F lost p q = unless number kept.Refused (keptOf F lost p q)
+-- the refusals with their causes, in their order: those of what is taken, and then those of the mesh that is kept
+abbrev pub keepCrustRows : Float → List ℕ → List ℕ → List ℕ → List ℕ → List ℕ → List ℕ → List Row
+keepCrustRows c P C X p q w = crustRows c (length P) C X (length w) ++ keptRows (crustCells c P C X) p q
+
+abbrev pub keepCoverRows : Float → List ℕ → List ℕ → List ℕ → List ℕ → List ℕ → List ℕ → List ℕ → List Row
+keepCoverRows c P C X Q p q w = coverRows c (length P) C X Q (length w) ++ keptRows (coverCells c P C X Q) p q
+
+-- the answer, where the first refusal found before the cells are looked at has this number, or 0
+unfoldable pub keepOf : ℕ → List ℕ → ℕ → List ℕ → List ℕ → Kept
+keepOf number F dropped p q = unless number Refused (keptOf F dropped p q)
 
 abbrev pub crustOf : Float → List ℕ → List ℕ → List ℕ → List ℕ → List ℕ → List ℕ → Kept
 crustOf c P C X p q w = keepOf (first (crustRows c (length P) C X (length w))) (crustCells c P C X) (crustDropped c P C X) p q
 
 abbrev pub coverOf : Float → List ℕ → List ℕ → List ℕ → List ℕ → List ℕ → List ℕ → List ℕ → Kept
-coverOf c P C X Q p q w =
-    keepOf (first (coverRows c (length P) C X Q (length w))) (coverCells c P C X Q) (coverDropped c P C X Q) p q
+coverOf c P C X Q p q w = keepOf (first (coverRows c (length P) C X Q (length w))) (coverCells c P C X Q) (coverDropped c P C X Q) p q
 
 -- the work after: its entries zero on an answer, on 9 and on 10, else as lent
 abbrev pub workAfter : Kept → List ℕ → List ℕ → List ℕ → List ℕ
 workAfter a P C w = on (0 ∷ 9 ∷ 10 ∷ []) (numberOf a) (zeroed (needOf P C) w) w
 
--- the outcome of either step, whose answer is to be a
+-- the outcome of either step, whose answer is to be a, and whose cells before compaction are F
 pub record KeepDone (a : Kept) (P C F p q w : List ℕ) (r : Kept) (p′ q′ w′ : List ℕ) : Type 0 where
   pub answer : r ≡ a
   pub points : p′ ≡ pointsAfter a P F p
   pub cells : q′ ≡ cellsAfter a F q
   pub work : w′ ≡ workAfter a P C w
+
+abbrev pub CrustDone : Float → (P C X p q w : List ℕ) → Kept → (p′ q′ w′ : List ℕ) → Type 0
+CrustDone c P C X p q w r p′ q′ w′ = KeepDone (crustOf c P C X p q w) P C (crustCells c P C X) p q w r p′ q′ w′
+
+abbrev pub CoverDone : Float → (P C X Q p q w : List ℕ) → Kept → (p′ q′ w′ : List ℕ) → Type 0
+CoverDone c P C X Q p q w r p′ q′ w′ = KeepDone (coverOf c P C X Q p q w) P C (coverCells c P C X Q) p q w r p′ q′ w′

@@ -1,14 +1,13 @@
 // The steps `keep_cover` and `keep_crust`: the cells that the surface crosses, with those inside or without them, as a mesh of its own.
 ghost use mathlib.Core.Path.{_≡_};
-ghost use lib.ListN.{length};
+ghost use lib.ListN.{take};
 ghost use Rattle.lists.specs.Tests.{bit};
 ghost use Rattle.refusals.specs.Rows.{first};
-ghost use Rattle.mesh.specs.Mesh.{cellsOf};
-ghost use Rattle.groups.specs.Parts.{Sized, Labelled};
-ghost use Rattle.marked.specs.Kept.{KeptMarked};
-ghost use Rattle.marked.specs.Weighed.{Marks};
-ghost use Rattle.keep.specs.Marked.{crustMark, coverMark, coverIn, ProbeAsked, CoverAsked, MarksOf, KeepAsked};
-ghost use Rattle.keep.specs.Step.{crustRows, coverRows, crustOf, crustCells, coverOf, coverCells, KeepDone};
+ghost use Rattle.mesh.specs.Mesh.{pointsOf, cellsOf};
+ghost use Rattle.groups.specs.Parts.{Sized, Laid};
+ghost use Rattle.keep.specs.Marked.{crustMark, coverMark};
+ghost use Rattle.keep.specs.Step.{crustRows, coverRows, CrustDone, CoverDone};
+ghost use Rattle.keep.specs.Parts.{coverIn, ProbeAsked, CoverAsked, MarksOf, InsideAsked, frontOf, RestKept};
 use marked::Kept;
 
 // The number that Crust is refused with, where `points` is the length of the table of points and `room` that of the work: 1, 4, 5, 6, 8, or 0.
@@ -109,42 +108,41 @@ fn mark_cover(cells: &[u32], crossing: &[u8], probe: &[u8], work: &mut [u32], n:
     }
 }
 
-// Keeps the crossed cells.
-fn keep_crossed(
-    points: &[u32],
-    cells: &[u32],
-    crossing: &[u8],
-    kept_points: &mut [u32],
-    kept_cells: &mut [u32],
-    work: &mut [u32],
-    n: usize,
-    least: f32,
-) -> Kept
-    requires { ⌜ Marks (now points) (now cells) (now work) n ⌝ }
-    ensures { λ r. ⌜ KeptMarked (now (points .entry)) (now (cells .entry)) (crustMark (now (crossing .entry))) least (now («kept_points» .entry)) (now («kept_cells» .entry)) r (now («kept_points» .exit)) (now («kept_cells» .exit)) ⌝ }
-{
-    mark_crust(cells, crossing, work, n);
-    marked::keep_marked(points, cells, kept_points, kept_cells, work, n, least)
-}
-
-// Keeps the crossed cells, and those of the groups whose probe answer is 1.
-fn keep_inside(
-    points: &[u32],
-    cells: &[u32],
-    crossing: &[u8],
-    probe: &[u8],
-    kept_points: &mut [u32],
-    kept_cells: &mut [u32],
-    work: &mut [u32],
-    n: usize,
-    least: f32,
-) -> Kept
-    requires { ⌜ KeepAsked (now points) (now cells) (now probe) (now work) n ⌝ }
-    ensures { λ r. ⌜ KeptMarked (now (points .entry)) (now (cells .entry)) (coverMark (now (cells .entry)) (now (crossing .entry)) (now (probe .entry)) (cellsOf (now (cells .entry)))) least (now («kept_points» .entry)) (now («kept_cells» .entry)) r (now («kept_points» .exit)) (now («kept_cells» .exit)) ⌝ }
+// Finds the groups, and marks the cells that Cover keeps, from a work table that holds anything.
+fn mark_inside(cells: &[u32], crossing: &[u8], probe: &[u8], work: &mut [u32], n: usize)
+    requires { ⌜ InsideAsked (now cells) (now probe) (now work) n ⌝ }
+    ensures { λ _. ⌜ MarksOf (coverMark (now (cells .entry)) (now (crossing .entry)) (now (probe .entry)) (cellsOf (now (cells .entry)))) (now (cells .entry)) (now (work .exit)) n ⌝ }
 {
     groups::settle(cells, crossing, work, n);
     mark_cover(cells, crossing, probe, work, n);
-    marked::keep_marked(points, cells, kept_points, kept_cells, work, n, least)
+}
+
+// Keeps the cells that the front of the work marks, and leaves the work zero.
+fn keep_rest(
+    c: f32,
+    points: &[u32],
+    cells: &[u32],
+    kept_points: &mut [u32],
+    kept_cells: &mut [u32],
+    work: &mut [u32],
+) -> Kept
+    requires { ⌜ Laid (now points) (now cells) (take (frontOf (now points) (now cells)) (now work)) (pointsOf (now points)) ⌝ }
+    ensures { λ r. ⌜ RestKept c (now (points .entry)) (now (cells .entry)) (now («kept_points» .entry)) (now («kept_cells» .entry)) (now (work .entry)) r (now («kept_points» .exit)) (now («kept_cells» .exit)) (now (work .exit)) ⌝ }
+{
+    let n = points.len() / 3;
+    let front = n + cells.len() / 4;
+    let least = volume::least_volume(c);
+    let answer = marked::keep_marked(
+        points,
+        cells,
+        kept_points,
+        kept_cells,
+        &mut work[..front],
+        n,
+        least,
+    );
+    lists::zero(work);
+    answer
 }
 
 // The mesh of the crossed cells and of those inside. Refused with 1, 4, 5, 6 or 8: all tables are then as lent. With 9, which carries the
@@ -160,29 +158,18 @@ pub fn keep_cover(
     kept_cells: &mut [u32],
     work: &mut [u32],
 ) -> Kept
-    ensures { λ r. ⌜ KeepDone (coverOf c (now (points .entry)) (now (cells .entry)) (now (crossing .entry)) (now (probe .entry)) (now («kept_points» .entry)) (now («kept_cells» .entry)) (now (work .entry))) (now (points .entry)) (now (cells .entry)) (coverCells c (now (points .entry)) (now (cells .entry)) (now (crossing .entry)) (now (probe .entry))) (now («kept_points» .entry)) (now («kept_cells» .entry)) (now (work .entry)) r (now («kept_points» .exit)) (now («kept_cells» .exit)) (now (work .exit)) ⌝ }
+    ensures { λ r. ⌜ CoverDone c (now (points .entry)) (now (cells .entry)) (now (crossing .entry)) (now (probe .entry)) (now («kept_points» .entry)) (now («kept_cells» .entry)) (now (work .entry)) r (now («kept_points» .exit)) (now («kept_cells» .exit)) (now (work .exit)) ⌝ }
 {
-    let n = points.len() / 3;
-    let front = n + cells.len() / 4;
-    let need = front + n;
     let number = judge_cover(c, points.len(), cells, crossing, probe, work.len());
     if number != 0 {
         return Kept::Refused(number);
     }
-    let least = volume::least_volume(c);
-    let answer = keep_inside(
-        points,
-        cells,
-        crossing,
-        probe,
-        kept_points,
-        kept_cells,
-        &mut work[..front],
-        n,
-        least,
-    );
-    lists::zero(&mut work[..need]);
-    answer
+    let n = points.len() / 3;
+    let many = cells.len() / 4;
+    let front = n + many;
+    let need = many + 2 * n;
+    mark_inside(cells, crossing, probe, &mut work[..front], n);
+    keep_rest(c, points, cells, kept_points, kept_cells, &mut work[..need])
 }
 
 // The mesh of the crossed cells alone, without a probe table; else as `keep_cover`.
@@ -195,26 +182,16 @@ pub fn keep_crust(
     kept_cells: &mut [u32],
     work: &mut [u32],
 ) -> Kept
-    ensures { λ r. ⌜ KeepDone (crustOf c (now (points .entry)) (now (cells .entry)) (now (crossing .entry)) (now («kept_points» .entry)) (now («kept_cells» .entry)) (now (work .entry))) (now (points .entry)) (now (cells .entry)) (crustCells c (now (points .entry)) (now (cells .entry)) (now (crossing .entry))) (now («kept_points» .entry)) (now («kept_cells» .entry)) (now (work .entry)) r (now («kept_points» .exit)) (now («kept_cells» .exit)) (now (work .exit)) ⌝ }
+    ensures { λ r. ⌜ CrustDone c (now (points .entry)) (now (cells .entry)) (now (crossing .entry)) (now («kept_points» .entry)) (now («kept_cells» .entry)) (now (work .entry)) r (now («kept_points» .exit)) (now («kept_cells» .exit)) (now (work .exit)) ⌝ }
 {
-    let n = points.len() / 3;
-    let front = n + cells.len() / 4;
-    let need = front + n;
     let number = judge_crust(c, points.len(), cells, crossing, work.len());
     if number != 0 {
         return Kept::Refused(number);
     }
-    let least = volume::least_volume(c);
-    let answer = keep_crossed(
-        points,
-        cells,
-        crossing,
-        kept_points,
-        kept_cells,
-        &mut work[..front],
-        n,
-        least,
-    );
-    lists::zero(&mut work[..need]);
-    answer
+    let n = points.len() / 3;
+    let many = cells.len() / 4;
+    let front = n + many;
+    let need = many + 2 * n;
+    mark_crust(cells, crossing, &mut work[..front], n);
+    keep_rest(c, points, cells, kept_points, kept_cells, &mut work[..need])
 }

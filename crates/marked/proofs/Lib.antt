@@ -2,5 +2,5 @@
 pub mod Using
 pub mod Weighing
 pub mod Placing
-pub mod Keeping
-pub mod Meaning
+pub mod WaysOut
+pub mod Theorems

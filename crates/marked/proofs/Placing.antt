@@ -1,5 +1,5 @@
 -- The storing of cells and of points. Assumes nothing.
-use mathlib.Core.Path.{_≡_, refl, sym, ap, ap₂, subst, _∙_}
+use mathlib.Core.Path.{_≡_, refl, sym, ap, subst, _∙_}
 use mathlib.Core.Logic.{_⊎_, inl, inr, _≢_}
 use mathlib.Core.Bool.{Bool, true, false, cond}
 use mathlib.Core.List.{List, [], _∷_, _++_, map}
@@ -8,17 +8,20 @@ use native.Mathlib.Nat.{not-suc-le-zero, le-of-suc-le-suc}
 use native.Mathlib.Omega.{arith}
 use borrow.Author.Tests.{eq-eqb, ne-eqb}
 use lib.Dec.{eqb}
-use lib.ListN.{length, getD, set, take, drop, length-set, length-append, length-map, List·getD-append}
-use lib.Seq.{length-sets, getD-set-same, getD-set-other, getD-append-add, ext-getD, sets}
+use lib.ListN.{length, getD, set, length-set}
+use lib.Seq.{length-sets, getD-set-same, getD-set-other, ext-getD, sets}
 use Rattle.lists.specs.Appearance.{place, Table}
 use Rattle.lists.specs.Runs.{run, Stored}
-use Rattle.mesh.specs.Mesh.{cellsOf}
+use Rattle.lists.proofs.Passing.{spread-length, spread-at}
+use Rattle.mesh.specs.Mesh.{cellsOf, cellOf, Each, inOrder, exchanged}
+use Rattle.mesh.specs.declared.Cell.{Cell}
+use Rattle.mesh.proofs.Named.{each-exchanged}
 use Rattle.lists.proofs.Cases.{eqOr, ltOr}
 use Rattle.lists.proofs.Parts.{sets-whole}
 use Rattle.lists.proofs.Running.{run-last, run-room, stored-both, stored-none}
 use Rattle.lists.proofs.Appearing.{place-one}
 use Rattle.marked.specs.Used.{pointBits, pointsAt}
-use Rattle.marked.specs.Placed.{shapeOf, placedCell, placedCells, CellAsked, CellStored, CellsAsked, PointStored, PointsAsked, Distinct, PointsStored}
+use Rattle.marked.specs.Parts.{ordered, shapeOf, placedCell, placedCells, CellAsked, CellStored, CellsAsked, PointStored, PointsAsked, Distinct, PointsStored}
 use Rattle.marked.proofs.Using.{entry-in}
 
 -- ---- one cell
@@ -28,40 +31,34 @@ module _ (C o w : List ℕ) (n i k : ℕ) where
   unfolding placedCell shapeOf
   cell-gone z = stored-none o _ (4 * k) (rw (eq-eqb (getD w (n + i) 0) 0 z) refl)
 
-  module _ (d : getD w (n + i) 0 ≢ 0) {o′ : List ℕ} where
-    pub cell-kept : getD w (n + i) 0 ≡ 1
-        → o′ ≡ sets o (4 * k) ((getD w (getD C (4 * i) 0) 0 - 1) ∷ (getD w (getD C (4 * i + 1) 0) 0 - 1) ∷ (getD w (getD C (4 * i + 2) 0) 0 - 1) ∷ (getD w (getD C (4 * i + 3) 0) 0 - 1) ∷ [])
-        → CellStored C o o′ w n i k (k + 1)
-    unfolding placedCell shapeOf
-    cell-kept e s = rw (ne-eqb (getD w (n + i) 0) 0 d, eq-eqb (getD w (n + i) 0) 1 e) (record { count = omega arith; kept = s })
+  -- it is stored in its order, each vertex by its place
+  pub cell-placed : {o′ : List ℕ} {m : Cell} → getD w (n + i) 0 ≢ 0 → m ≡ ordered (getD w (n + i) 0) (cellOf C i)
+      → o′ ≡ sets o (4 * k) ((getD w (m .a) 0 - 1) ∷ (getD w (m .b) 0 - 1) ∷ (getD w (m .c) 0 - 1) ∷ (getD w (m .d) 0 - 1) ∷ [])
+      → CellStored C o o′ w n i k (k + 1)
+  unfolding placedCell shapeOf inOrder
+  cell-placed d e s = rw (ne-eqb (getD w (n + i) 0) 0 d, ← e) (record { count = omega arith; kept = s })
 
-    pub cell-exchanged : getD w (n + i) 0 ≢ 1
-        → o′ ≡ sets o (4 * k) ((getD w (getD C (4 * i + 1) 0) 0 - 1) ∷ (getD w (getD C (4 * i) 0) 0 - 1) ∷ (getD w (getD C (4 * i + 2) 0) 0 - 1) ∷ (getD w (getD C (4 * i + 3) 0) 0 - 1) ∷ [])
-        → CellStored C o o′ w n i k (k + 1)
-    unfolding placedCell shapeOf
-    cell-exchanged e s = rw (ne-eqb (getD w (n + i) 0) 0 d, ne-eqb (getD w (n + i) 0) 1 e) (record { count = omega arith; kept = s })
-
--- the vertex at p of the cell has its number
-pub named-at : {C o w : List ℕ} {n i k v : ℕ} → CellAsked C o w n i k → getD w (n + i) 0 ≢ 0 → (p : ℕ) → p / 4 ≡ i → v ≡ getD C p 0 → 0 < getD w v 0
-named-at {w = w} q d p e ev = subst (λ (u : ℕ). 0 < getD w u 0) (sym ev) (q .named d p e)
+-- its vertices have their numbers, in whichever order
+pub order-named : {Q : ℕ → Type 0} (code : ℕ) {k m : Cell} → m ≡ ordered code k → Each Q k → Each Q m
+unfolding ordered
+order-named {Q} code {k} e n = subst (Each Q) (sym e) (go (eqb code 1))
+  where
+    go : (t : Bool) → Each Q (cond t k (exchanged k))
+    go true = n
+    go false = each-exchanged n
 
 -- ---- all cells
 
 -- a cell that stays has four vertices, and another none
 placed-length : (C w : List ℕ) (n i : ℕ) → (length (placedCell C w n i) ≤ 4) × (getD w (n + i) 0 ≢ 0 → length (placedCell C w n i) ≡ 4)
-unfolding placedCell shapeOf
-placed-length C w n i = go (eqb (getD w (n + i) 0) 1) (eqOr (getD w (n + i) 0) 0)
+unfolding placedCell shapeOf inOrder
+placed-length C w n i = go (eqOr (getD w (n + i) 0) 0)
   where
-    four : List ℕ → ℕ
-    four l = length (map (λ v. getD w v 0 - 1) l)
-
-    go : (t : Bool) → (getD w (n + i) 0 ≡ 0) ⊎ (getD w (n + i) 0 ≢ 0)
-        → (length (map (λ v. getD w v 0 - 1) (cond (eqb (getD w (n + i) 0) 0) [] (cond t (getD C (4 * i) 0 ∷ getD C (4 * i + 1) 0 ∷ getD C (4 * i + 2) 0 ∷ getD C (4 * i + 3) 0 ∷ []) (getD C (4 * i + 1) 0 ∷ getD C (4 * i) 0 ∷ getD C (4 * i + 2) 0 ∷ getD C (4 * i + 3) 0 ∷ [])))) ≤ 4)
-        × (getD w (n + i) 0 ≢ 0
-        → length (map (λ v. getD w v 0 - 1) (cond (eqb (getD w (n + i) 0) 0) [] (cond t (getD C (4 * i) 0 ∷ getD C (4 * i + 1) 0 ∷ getD C (4 * i + 2) 0 ∷ getD C (4 * i + 3) 0 ∷ []) (getD C (4 * i + 1) 0 ∷ getD C (4 * i) 0 ∷ getD C (4 * i + 2) 0 ∷ getD C (4 * i + 3) 0 ∷ [])))) ≡ 4)
-    go t (inl z) = rw (eq-eqb (getD w (n + i) 0) 0 z) (zero-le, λ d. absurd (d z))
-    go true (inr d) = rw (ne-eqb (getD w (n + i) 0) 0 d) (omega arith, λ x. refl)
-    go false (inr d) = rw (ne-eqb (getD w (n + i) 0) 0 d) (omega arith, λ x. refl)
+    go : (getD w (n + i) 0 ≡ 0) ⊎ (getD w (n + i) 0 ≢ 0)
+        → (length (map (λ v. getD w v 0 - 1) (shapeOf (getD w (n + i) 0) (cellOf C i))) ≤ 4)
+        × (getD w (n + i) 0 ≢ 0 → length (map (λ v. getD w v 0 - 1) (shapeOf (getD w (n + i) 0) (cellOf C i))) ≡ 4)
+    go (inl z) = rw (eq-eqb (getD w (n + i) 0) 0 z) (zero-le, λ d. absurd (d z))
+    go (inr d) = rw (ne-eqb (getD w (n + i) 0) 0 d) (omega arith, λ x. refl)
 
 module _ (C w o₀ : List ℕ) (n : ℕ) where
   -- the first i cells are looked at, and k of them stored
@@ -84,7 +81,7 @@ module _ (C w o₀ : List ℕ) (n : ℕ) where
     unfolding placedCells
     cell-asked a h = record {
       entry = omega (arith, a .sized .long);
-      inside = omega (arith, a .sized .cells .whole);
+      inside = h;
       few = l .few;
       small = omega (arith, a .sized .cells .few);
       named = a .named i h;
@@ -137,26 +134,17 @@ bits-at P v (suc zero) h = refl
 bits-at P v (suc (suc zero)) h = refl
 bits-at P v (suc (suc (suc a))) h = absurd (omega arith)
 
-pub bits-three : (P : List ℕ) (v : ℕ) → length (pointBits P v) ≡ 3
+bits-three : (P : List ℕ) (v : ℕ) → length (pointBits P v) ≡ 3
 unfolding pointBits
 bits-three P v = refl
 
 points-length : (P s : List ℕ) → length (pointsAt P s) ≡ 3 * length s
 unfolding pointsAt
-points-length P [] = refl
-points-length P (v ∷ s) = omega (arith, length-append (pointBits P v) (pointsAt P s), bits-three P v, points-length P s)
+points-length P s = spread-length (pointBits P) 3 (bits-three P) s
 
 pub points-at : (P s : List ℕ) (k a : ℕ) → k < length s → a < 3 → getD (pointsAt P s) (3 * k + a) 0 ≡ getD P (3 * getD s k 0 + a) 0
 unfolding pointsAt
-points-at P [] k a h b = absurd (not-suc-le-zero h)
-points-at P (v ∷ s) zero a h b =
-    let e : 3 * 0 + a ≡ a = omega arith in
-    ap (λ (m : ℕ). getD (pointBits P v ++ pointsAt P s) m 0) e
-    ∙ List·getD-append (pointBits P v) (pointsAt P s) 0 a (omega (arith, bits-three P v)) ∙ bits-at P v a b
-points-at P (v ∷ s) (suc k) a h b =
-    let e : 3 * suc k + a ≡ length (pointBits P v) + (3 * k + a) = omega (arith, bits-three P v) in
-    ap (λ (m : ℕ). getD (pointBits P v ++ pointsAt P s) m 0) e
-    ∙ getD-append-add (pointBits P v) (pointsAt P s) (3 * k + a) 0 ∙ points-at P s k a (le-of-suc-le-suc h) b
+points-at P s k a h b = spread-at (pointBits P) 3 (bits-three P) s k a h b ∙ bits-at P (getD s k 0) a b
 
 -- one point
 module _ {P o T : List ℕ} {v k : ℕ} (e : k ≡ getD T v 0) where

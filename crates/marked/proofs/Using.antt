@@ -11,8 +11,8 @@ use lib.Seq.{getD-at}
 use Rattle.lists.specs.Appearance.{place, noted, Table}
 use Rattle.lists.proofs.Cases.{eqOr, ltOr}
 use Rattle.lists.proofs.Appearing.{place-le, place-old, place-own, noted-old, noted-new, length-noted, place-kept, place-noted, table-new}
-use Rattle.marked.specs.Used.{firstUses, NotedIn}
-use Rattle.marked.specs.Placed.{Distinct}
+use Rattle.marked.specs.Used.{firstUses}
+use Rattle.marked.specs.Parts.{NotedIn, Distinct}
 
 pub uses-append : (A B s : List ℕ) → firstUses s (A ++ B) ≡ firstUses (firstUses s A) B
 unfolding firstUses

@@ -1,5 +1,5 @@
 -- The definitions that the contracts of marked cite.
-pub mod Used
 pub mod Weighed
-pub mod Placed
+pub mod Used
 pub mod Kept
+pub mod Parts

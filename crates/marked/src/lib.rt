@@ -1,14 +1,14 @@
 // The marked cells weighed, and those that stay stored with the points they use, numbered by first use. In the work table n entries for
 // the points stand in front, and behind them one for each cell, which is not 0 where the cell is marked.
 ghost use mathlib.Core.Path.{_≡_};
-ghost use mathlib.Core.List.{[], _∷_};
 ghost use Prim.Native.Nat.{_-_, _<_};
-ghost use lib.ListN.{length, getD, take, drop, replicate};
-ghost use Rattle.marked.specs.Used.{NoteAsked, NotedIn, CornersAsked, CornersNoted};
-ghost use Rattle.marked.specs.Weighed.{StayAsked, WeighedAs, WeighAsked, WeighedAt, Marks, Tallied, markedIn};
-ghost use Rattle.marked.specs.Placed.{CellAsked, CellStored, placedCells, CellsAsked, PointAsked, PointStored, PointsAsked, PointsStored};
-ghost use Rattle.marked.specs.Kept.{KeptMarked};
+ghost use lib.ListN.{getD, take, drop, replicate};
+ghost use Rattle.lists.specs.Tests.{bit};
+ghost use Rattle.mesh.specs.Mesh.{inOrder, exchanged};
+ghost use Rattle.groups.specs.Parts.{Laid};
+ghost use Rattle.marked.specs.Parts.{NoteAsked, NotedIn, CornersAsked, CornersNoted, markedIn, WeighAsked, StayAsked, WeighedAs, WeighedAt, Tallied, ordered, CellAsked, CellStored, placedCells, CellsAsked, PointAsked, PointStored, PointsAsked, PointsStored, KeptMarked};
 use lists::wide;
+use mesh::Cell;
 use volume::Verdict;
 
 // The outcome of keeping: points, cells, and cells dropped; refused, with document 01's number; no room for so many points and cells;
@@ -39,40 +39,41 @@ fn note(numbers: &mut [u32], v: usize, count: usize) -> usize
     count + 1
 }
 
-fn note_corners(numbers: &mut [u32], a: usize, b: usize, c: usize, d: usize, count: usize) -> usize
-    requires { ⌜ CornersAsked (now numbers) a b c d count ⌝ }
-    ensures { λ r. ⌜ CornersNoted (now (numbers .entry)) (now (numbers .exit)) a b c d count r ⌝ }
+// Notes the points of a cell, in order.
+fn note_corners(numbers: &mut [u32], cell: Cell, count: usize) -> usize
+    requires { ⌜ CornersAsked (now numbers) cell count ⌝ }
+    ensures { λ r. ⌜ CornersNoted (now (numbers .entry)) (now (numbers .exit)) cell count r ⌝ }
 {
-    let one = note(numbers, a, count);
-    let two = note(numbers, b, one);
-    let three = note(numbers, c, two);
-    note(numbers, d, three)
+    let one = note(numbers, cell.a, count);
+    let two = note(numbers, cell.b, one);
+    let three = note(numbers, cell.c, two);
+    note(numbers, cell.d, three)
+}
+
+// The cell with its first two vertices exchanged.
+fn exchange(cell: Cell) -> Cell
+    ensures { λ r. ⌜ r ≡ exchanged cell ⌝ }
+{
+    Cell {
+        a: cell.b,
+        b: cell.a,
+        c: cell.c,
+        d: cell.d,
+    }
 }
 
 // Counts the cell i as one that stays: its entry is then the code, and its corners are noted in the order that it is stored in.
-fn stay(
-    work: &mut [u32],
-    n: usize,
-    i: usize,
-    code: u32,
-    a: usize,
-    b: usize,
-    c: usize,
-    d: usize,
-    used: usize,
-    kept: usize,
-    dropped: usize,
-) -> Counts
-    requires { ⌜ StayAsked (now work) n i a b c d used kept ⌝ }
-    ensures { λ r. ⌜ WeighedAs (now (work .entry)) (now (work .exit)) n i used kept dropped r code (a ∷ b ∷ c ∷ d ∷ []) [] ⌝ }
+fn stay(work: &mut [u32], n: usize, i: usize, code: u32, cell: Cell, counts: Counts) -> Counts
+    requires { ⌜ StayAsked (now work) n i cell counts ⌝ }
+    ensures { λ r. ⌜ WeighedAs (now (work .entry)) (now (work .exit)) n i counts r code (inOrder cell) 0 ⌝ }
 {
     let entry = n + i;
     work[entry] = code;
-    let points = note_corners(&mut work[..n], a, b, c, d, used);
+    let points = note_corners(&mut work[..n], cell, counts.points);
     Counts {
         points,
-        cells: kept + 1,
-        dropped,
+        cells: counts.cells + 1,
+        dropped: counts.dropped,
     }
 }
 
@@ -84,36 +85,26 @@ fn weigh(
     n: usize,
     i: usize,
     least: f32,
-    used: usize,
-    kept: usize,
-    dropped: usize,
+    counts: Counts,
 ) -> Counts
-    requires { ⌜ WeighAsked (now points) (now cells) (now work) n i used kept dropped ⌝ }
-    ensures { λ r. ⌜ WeighedAt (now (points .entry)) (now (cells .entry)) (now (work .entry)) (now (work .exit)) n i least used kept dropped r ⌝ }
+    requires { ⌜ WeighAsked (now points) (now cells) (now work) n i counts ⌝ }
+    ensures { λ r. ⌜ WeighedAt (now (points .entry)) (now (cells .entry)) (now (work .entry)) (now (work .exit)) n i least counts r ⌝ }
 {
     let entry = n + i;
     if work[entry] == 0 {
-        return Counts {
-            points: used,
-            cells: kept,
-            dropped,
-        };
+        return counts;
     }
-    let at = 4 * i;
-    let a = wide(cells[at]);
-    let b = wide(cells[at + 1]);
-    let c = wide(cells[at + 2]);
-    let d = wide(cells[at + 3]);
-    let verdict = volume::verdict_at(points, cells, i, least);
+    let cell = mesh::cell_at(cells, i);
+    let verdict = volume::verdict_on(volume::corners_at(points, cell), least);
     match verdict {
-        Verdict::Kept(_) => stay(work, n, i, 1, a, b, c, d, used, kept, dropped),
-        Verdict::Exchanged(_) => stay(work, n, i, 2, b, a, c, d, used, kept, dropped),
+        Verdict::Kept(_) => stay(work, n, i, 1, cell, counts),
+        Verdict::Exchanged(_) => stay(work, n, i, 2, exchange(cell), counts),
         Verdict::Dropped(_) => {
             work[entry] = 0;
             Counts {
-                points: used,
-                cells: kept,
-                dropped: dropped + 1,
+                points: counts.points,
+                cells: counts.cells,
+                dropped: counts.dropped + 1,
             }
         }
     }
@@ -121,31 +112,26 @@ fn weigh(
 
 // Weighs all cells, from a table of numbers that are all 0.
 fn weigh_all(points: &[u32], cells: &[u32], work: &mut [u32], n: usize, least: f32) -> Counts
-    requires { ⌜ Marks (now points) (now cells) (now work) n × (take n (now work) ≡ replicate n 0) ⌝ }
+    requires { ⌜ Laid (now points) (now cells) (now work) n × (take n (now work) ≡ replicate n 0) ⌝ }
     ensures { λ r. ⌜ Tallied (now (points .entry)) (now (cells .entry)) (drop n (now (work .entry))) (now (work .exit)) n least r ⌝ }
 {
     let many = cells.len() / 4;
-    let mut used: usize = 0;
-    let mut kept: usize = 0;
-    let mut dropped: usize = 0;
+    let mut counts = Counts {
+        points: 0,
+        cells: 0,
+        dropped: 0,
+    };
     let mut i: usize = 0;
     while i < many {
-        let counts = weigh(points, cells, work, n, i, least, used, kept, dropped);
-        used = counts.points;
-        kept = counts.cells;
-        dropped = counts.dropped;
+        counts = weigh(points, cells, work, n, i, least, counts);
         i += 1;
     }
-    Counts {
-        points: used,
-        cells: kept,
-        dropped,
-    }
+    counts
 }
 
 // Weighs all cells, from a work table whose first n entries hold anything.
 fn tally(points: &[u32], cells: &[u32], work: &mut [u32], n: usize, least: f32) -> Counts
-    requires { ⌜ Marks (now points) (now cells) (now work) n ⌝ }
+    requires { ⌜ Laid (now points) (now cells) (now work) n ⌝ }
     ensures { λ r. ⌜ Tallied (now (points .entry)) (now (cells .entry)) (drop n (now (work .entry))) (now (work .exit)) n least r ⌝ }
 {
     lists::zero(&mut work[..n]);
@@ -158,6 +144,16 @@ fn place_of(work: &[u32], v: usize) -> u32
     ensures { λ r. ⌜ r ≡ getD (now (work .entry)) v 0 - 1 ⌝ }
 {
     work[v] - 1
+}
+
+// A cell in the order that its entry says.
+fn order(code: u32, cell: Cell) -> Cell
+    ensures { λ r. ⌜ r ≡ ordered code cell ⌝ }
+{
+    if code == 1 {
+        return cell;
+    }
+    exchange(cell)
 }
 
 // Stores the cell i as cell k of the mesh, by the places of its points, and answers the next cell; or k, where it does not stay.
@@ -176,16 +172,12 @@ fn store_cell(
     if code == 0 {
         return k;
     }
-    let at = 4 * i;
-    let a = place_of(work, wide(cells[at]));
-    let b = place_of(work, wide(cells[at + 1]));
-    let c = place_of(work, wide(cells[at + 2]));
-    let d = place_of(work, wide(cells[at + 3]));
-    if code == 1 {
-        lists::store4(kept_cells, 4 * k, a, b, c, d);
-        return k + 1;
-    }
-    lists::store4(kept_cells, 4 * k, b, a, c, d);
+    let cell = order(code, mesh::cell_at(cells, i));
+    let a = place_of(work, cell.a);
+    let b = place_of(work, cell.b);
+    let c = place_of(work, cell.c);
+    let d = place_of(work, cell.d);
+    lists::store4(kept_cells, 4 * k, a, b, c, d);
     k + 1
 }
 
@@ -239,7 +231,7 @@ pub fn keep_marked(
     n: usize,
     least: f32,
 ) -> Kept
-    requires { ⌜ Marks (now points) (now cells) (now work) n ⌝ }
+    requires { ⌜ Laid (now points) (now cells) (now work) n ⌝ }
     ensures { λ r. ⌜ KeptMarked (now (points .entry)) (now (cells .entry)) (markedIn (drop n (now (work .entry)))) least (now («kept_points» .entry)) (now («kept_cells» .entry)) r (now («kept_points» .exit)) (now («kept_cells» .exit)) ⌝ }
 {
     let counts = tally(points, cells, work, n, least);

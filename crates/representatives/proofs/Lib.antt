@@ -1,5 +1,4 @@
 -- Laws that the proofs of representatives share.
 pub mod Listing
 pub mod WaysOut
-pub mod Passing
 pub mod Theorems

@@ -27,7 +27,7 @@ use Rattle.groups.specs.Judged.{crossedRows}
 use Rattle.groups.proofs.Unrefused.{crossed-proper}
 use Rattle.representatives.specs.Highest.{isHighest, representativesOf}
 use Rattle.representatives.specs.Step.{countOf, inputRows, representativesRows, listedOf, representedOf, RepresentativesDone}
-use Rattle.representatives.proofs.Passing.{those-pass, those-all, those-rise}
+use Rattle.lists.proofs.Passing.{those-pass, those-all, those-rise}
 
 -- the cell i is not crossed, and no cell that it is joined with is higher
 pub record Highest (C X : List ℕ) (n i : ℕ) : Type 0 where

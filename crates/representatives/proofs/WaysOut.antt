@@ -18,9 +18,10 @@ use Rattle.mesh.specs.Judged.{countRows, wholeRows, sizeRows, nameRows}
 use Rattle.lists.specs.Tables.{among, allFrom, on}
 use Rattle.refusals.proofs.Rows.{unless-none, unless-some, first-under}
 use Rattle.lists.proofs.Lent.{as-lent, as-lent-below, as-new}
+use Rattle.groups.specs.Parts.{Laid}
 use Rattle.groups.specs.Judged.{crossedRows}
 use Rattle.groups.proofs.Unrefused.{Answered, crossed-fits, sized-front}
-use Rattle.representatives.specs.Parts.{RoomFor, Storing, Listed, Settling, Found, Represents}
+use Rattle.representatives.specs.Parts.{RoomFor, Storing, Listed, Found, Represents}
 use Rattle.representatives.specs.Highest.{representativesOf, centroidsOf}
 use Rattle.refusals.specs.Counted.{numberOf}
 use Rattle.representatives.specs.Step.{countOf, inputRows, listedOf, representedOf, workAfter, RepresentativesDone}
@@ -53,8 +54,7 @@ module _ (P C X o z : List ℕ) {k : ℕ} (e : k ≡ countOf C X) where
 
     pub storing : (w : List ℕ) (n : ℕ) → Found P C X w n → Storing P C X (take k o) (take (3 * k) z) w n
     storing w n f = record {
-      labelled = f .labelled;
-      points = f .points;
+      found = f;
       numbers = length-take-le k o g ∙ e;
       centroids = length-take-le (3 * k) z (omega arith) ∙ ap (λ (m : ℕ). 3 * m) e;
     }
@@ -97,11 +97,8 @@ module _ (P C X o z w : List ℕ) where
     fits : Answered (length P) C X (length w) 1 1
     fits = crossed-fits (length P) C X (length w) 1 1 c
 
-    pub settling : Settling P C (take (pointsOf P + cellsOf C) w) (pointsOf P)
-    settling = record {
-      points = λ p h. omega (arith, fits .mesh .cells .names p h);
-      sized = sized-front C w (pointsOf P) (fits .mesh .cells) (work-fits (length P) C X (length w) c);
-    }
+    pub laid : Laid P C (take (pointsOf P + cellsOf C) w) (pointsOf P)
+    laid = record { points = refl; sized = sized-front C w (pointsOf P) (fits .mesh .cells) (work-fits (length P) C X (length w) c) }
 
     pub done : {r : Counted} {o′ z′ w′ : List ℕ} → Represents P C X o z r o′ z′ → w′ ≡ replicate (length (take (pointsOf P + cellsOf C) w)) 0
         → RepresentativesDone P C X o z w r o′ z′ (w′ ++ drop (pointsOf P + cellsOf C) w)

@@ -8,9 +8,10 @@ use Rattle.refusals.specs.Rows.{first, unless}
 use Rattle.refusals.specs.Causes.{workRows, eachRows, answerRows}
 use Rattle.mesh.specs.Judged.{countRows, wholeRows, sizeRows, nameRows}
 use Rattle.lists.specs.Tables.{allBelow, among}
-use Rattle.lists.specs.Runs.{run, those}
+use Rattle.lists.specs.Runs.{run, those, spread}
 use Rattle.lists.specs.Tests.{any}
 use Rattle.links.specs.Labels.{shares, touched, takenOver, addCell, labels, labelAt}
+use Rattle.mesh.specs.Mesh.{cellOf}
 use Rattle.volume.specs.Cell.{pointOf, cornersOf}
 use Rattle.groups.specs.Judged.{crossedRows}
 use Rattle.representatives.specs.Highest.{isHighest, representativesOf, centroidBits, centroidsOf}
@@ -73,5 +74,5 @@ asked k =
     (numbersAfter a (k .cells) (k .crossing) o) (centroidsAfter a P (k .cells) (k .crossing) z) (workAfter a P (k .cells) w)
 
 examples : map asked table ≡ table
-unfolding ofBits toBits add div first unless countRows wholeRows workRows sizeRows eachRows answerRows nameRows allBelow among run those any shares touched takenOver addCell labels labelAt pointOf cornersOf crossedRows isHighest representativesOf centroidBits centroidsOf listedOf representedOf
+unfolding ofBits toBits add div first unless countRows wholeRows workRows sizeRows eachRows answerRows nameRows allBelow among run those spread any shares touched takenOver addCell labels labelAt cellOf pointOf cornersOf crossedRows isHighest representativesOf centroidBits centroidsOf listedOf representedOf
 examples = refl

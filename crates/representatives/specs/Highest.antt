@@ -1,11 +1,12 @@
 -- The highest cell of each group, and its centroid.
-use mathlib.Core.Bool.{Bool, cond, _&&_}
+use mathlib.Core.Bool.{Bool, _&&_}
 use mathlib.Core.List.{List, [], _∷_}
 use Prim.Native.Nat.{ℕ}
 use lib.Dec.{eqb}
 use lib.Ieee.{binary32, toBits}
 use lib.ListN.{getD}
-use Rattle.lists.specs.Runs.{run, those}
+use Rattle.lists.specs.Runs.{those, spread}
+use Rattle.mesh.specs.Mesh.{cellOf}
 use Rattle.links.specs.Labels.{labelAt}
 use Rattle.volume.specs.Cell.{cornersOf}
 use Rattle.volume.specs.Volume.{centroidOf}
@@ -21,10 +22,9 @@ representativesOf C X n = those (isHighest C X n) n
 -- the patterns of the centroid of the cell i
 unfoldable pub centroidBits : List ℕ → List ℕ → ℕ → List ℕ
 centroidBits P C i =
-    let k = cornersOf P C i in
-    let z = centroidOf (k .a) (k .b) (k .c) (k .d) in
+    let z = centroidOf (cornersOf P (cellOf C i)) in
     toBits binary32 (z .x) ∷ toBits binary32 (z .y) ∷ toBits binary32 (z .z) ∷ []
 
--- the centroids of the representatives, in their order
+-- those of the representatives, in their order
 unfoldable pub centroidsOf : List ℕ → List ℕ → List ℕ → ℕ → List ℕ
-centroidsOf P C X n = run n (λ i. cond (isHighest C X n i) (centroidBits P C i) []) 0
+centroidsOf P C X n = spread (centroidBits P C) (representativesOf C X n)

@@ -7,9 +7,8 @@ use lib.Dec.{eqb}
 use lib.ListN.{length, getD}
 use Rattle.lists.specs.Runs.{Stored}
 use Rattle.refusals.specs.declared.Counted.{Counted}
-use Rattle.mesh.specs.Mesh.{cellsOf, most}
-use Rattle.groups.specs.Parts.{Sized, Labelled}
-use Rattle.volume.specs.Cell.{CellIn}
+use Rattle.mesh.specs.Mesh.{pointsOf, cellsOf, Cells}
+use Rattle.groups.specs.Parts.{Labelled}
 use Rattle.representatives.specs.Highest.{representativesOf, centroidBits, centroidsOf}
 use Rattle.representatives.specs.Step.{listedOf, numbersAfter, centroidsAfter}
 
@@ -26,38 +25,31 @@ pub record RoomFor (C X : List ℕ) (r : ℕ) : Type 0 where
   pub count : r ≡ length (representativesOf C X (cellsOf C))
   pub few : r ≤ cellsOf C
 
--- one is stored
-pub record Storable (P C X o z w : List ℕ) (n i k : ℕ) : Type 0 where
-  pub readable : Readable X w n i
-  pub cell : CellIn P C i
-  pub small : i ≤ most
+-- the cell i may be stored as the k-th, where it is one of the list
+pub record Storable (P C o z : List ℕ) (last : Bool) (i k : ℕ) : Type 0 where
+  pub cells : Cells C (pointsOf P)
+  pub inside : i < cellsOf C
   pub few : k ≤ i
-  pub room : isLast X w n i ≡ true → (k < length o) × (3 * k + 3 ≤ length z)
+  pub room : last ≡ true → (k < length o) × (3 * k + 3 ≤ length z)
 
-pub record ListedAt (P C X o z w o′ z′ : List ℕ) (n i k r : ℕ) : Type 0 where
-  pub number : Stored o k (cond (isLast X w n i) (i ∷ []) []) r o′
-  pub centroid : Stored z (3 * k) (cond (isLast X w n i) (centroidBits P C i) []) (3 * r) z′
+pub record ListedAt (P C o z o′ z′ : List ℕ) (last : Bool) (i k r : ℕ) : Type 0 where
+  pub number : Stored o k (cond last (i ∷ []) []) r o′
+  pub centroid : Stored z (3 * k) (cond last (centroidBits P C i) []) (3 * r) z′
+
+-- the groups are found
+pub record Found (P C X w : List ℕ) (n : ℕ) : Type 0 where
+  pub points : n ≡ pointsOf P
+  pub labelled : Labelled C X w n
 
 -- all are stored, in tables that are just as long
 pub record Storing (P C X o z w : List ℕ) (n : ℕ) : Type 0 where
-  pub labelled : Labelled C X w n
-  pub points : (p : ℕ) → p < length C → 3 * getD C p 0 + 2 < length P
+  pub found : Found P C X w n
   pub numbers : length o ≡ length (representativesOf C X (cellsOf C))
   pub centroids : length z ≡ 3 * length (representativesOf C X (cellsOf C))
 
 pub record Listed (P C X o′ z′ : List ℕ) : Type 0 where
   pub numbers : o′ ≡ representativesOf C X (cellsOf C)
   pub centroids : z′ ≡ centroidsOf P C X (cellsOf C)
-
--- the points that the cells name are there, and the work is sized
-pub record Settling (P C w : List ℕ) (n : ℕ) : Type 0 where
-  pub points : (p : ℕ) → p < length C → 3 * getD C p 0 + 2 < length P
-  pub sized : Sized C w n
-
--- and the groups are found
-pub record Found (P C X w : List ℕ) (n : ℕ) : Type 0 where
-  pub points : (p : ℕ) → p < length C → 3 * getD C p 0 + 2 < length P
-  pub labelled : Labelled C X w n
 
 pub record Represents (P C X o z : List ℕ) (r : Counted) (o′ z′ : List ℕ) : Type 0 where
   pub answer : r ≡ listedOf C X o z

@@ -2,9 +2,9 @@
 ghost use mathlib.Core.Path.{_≡_};
 ghost use lib.ListN.{length, replicate};
 ghost use Rattle.lists.specs.Runs.{those};
-ghost use Rattle.groups.specs.Parts.{Sized, Labelled};
+ghost use Rattle.groups.specs.Parts.{Laid, Labelled};
 ghost use Rattle.representatives.specs.Step.{RepresentativesDone};
-ghost use Rattle.representatives.specs.Parts.{Readable, isLast, Storable, ListedAt, Storing, Listed, RoomFor, Found, Settling, Represents};
+ghost use Rattle.representatives.specs.Parts.{Readable, isLast, Storable, ListedAt, Storing, Listed, RoomFor, Found, Represents};
 use refusals::Counted;
 
 // Whether the cell i is not crossed, and the last of its group.
@@ -34,26 +34,23 @@ fn count_last(cells: &[u32], crossing: &[u8], work: &[u32], n: usize) -> usize
     count
 }
 
-// Stores the number and the centroid of the cell i as those of place k, and answers the next place; or k, where the cell is not the last.
+// Stores the number and the centroid of the cell i as those of place k, where it is one of the list, and answers the next place.
 fn list_at(
     points: &[u32],
     cells: &[u32],
-    crossing: &[u8],
     numbers: &mut [u32],
     centroids: &mut [u32],
-    work: &[u32],
-    n: usize,
+    last: bool,
     i: usize,
     k: usize,
 ) -> usize
-    requires { ⌜ Storable (now points) (now cells) (now crossing) (now numbers) (now centroids) (now work) n i k ⌝ }
-    ensures { λ r. ⌜ ListedAt (now (points .entry)) (now (cells .entry)) (now (crossing .entry)) (now (numbers .entry)) (now (centroids .entry)) (now (work .entry)) (now (numbers .exit)) (now (centroids .exit)) n i k r ⌝ }
+    requires { ⌜ Storable (now points) (now cells) (now numbers) (now centroids) last i k ⌝ }
+    ensures { λ r. ⌜ ListedAt (now (points .entry)) (now (cells .entry)) (now (numbers .entry)) (now (centroids .entry)) (now (numbers .exit)) (now (centroids .exit)) last i k r ⌝ }
 {
-    if !is_last(crossing, work, n, i) {
+    if !last {
         return k;
     }
-    let corners = volume::corners_at(points, cells, i);
-    let z = volume::centroid(corners.a, corners.b, corners.c, corners.d);
+    let z = volume::centroid(volume::corners_at(points, mesh::cell_at(cells, i)));
     lists::store3(
         centroids,
         3 * k,
@@ -81,7 +78,8 @@ fn list_last(
     let mut k: usize = 0;
     let mut i: usize = 0;
     while i < many {
-        k = list_at(points, cells, crossing, numbers, centroids, work, n, i, k);
+        let last = is_last(crossing, work, n, i);
+        k = list_at(points, cells, numbers, centroids, last, i, k);
         i += 1;
     }
 }
@@ -129,7 +127,7 @@ fn represent(
     work: &mut [u32],
     n: usize,
 ) -> Counted
-    requires { ⌜ Settling (now points) (now cells) (now work) n ⌝ }
+    requires { ⌜ Laid (now points) (now cells) (now work) n ⌝ }
     ensures { λ r. ⌜ Represents (now (points .entry)) (now (cells .entry)) (now (crossing .entry)) (now (numbers .entry)) (now (centroids .entry)) r (now (numbers .exit)) (now (centroids .exit)) × (now (work .exit) ≡ replicate (length (now (work .entry))) 0) ⌝ }
 {
     groups::settle(cells, crossing, work, n);

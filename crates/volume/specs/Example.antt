@@ -4,6 +4,7 @@ use mathlib.Core.List.{List, [], _∷_, map}
 use Prim.Native.Nat.{ℕ}
 use lib.Ieee.{Float, binary32, ofBits, toBits, add, sub, mul, div, neg, lt}
 use Rattle.float32.specs.Operations.{f32}
+use Rattle.mesh.specs.Mesh.{cellOf}
 use Rattle.volume.specs.Cell.{pointOf, cornersOf}
 use Rattle.volume.specs.Volume.{volumeOf, sizeOf, leastOf, verdictOf, verdictAt, centroidOf}
 use Rattle.volume.specs.declared.Verdict.{Verdict}
@@ -59,10 +60,9 @@ table =
 
 abbrev asked : Case → Case
 asked k =
-    let m = cornersOf (k .points) (k .cell) 0 in
-    let z = centroidOf (m .a) (m .b) (m .c) (m .d) in
+    let z = centroidOf (cornersOf (k .points) (cellOf (k .cell) 0)) in
     case (k .points) (k .cell) (k .size) (verdictAt (k .points) (k .cell) 0 (leastOf (f32 (k .size)))) (toBits binary32 (z .x) ∷ toBits binary32 (z .y) ∷ toBits binary32 (z .z) ∷ [])
 
 examples : map asked table ≡ table
-unfolding ofBits toBits add sub mul div neg lt pointOf cornersOf volumeOf sizeOf verdictOf verdictAt
+unfolding ofBits toBits add sub mul div neg lt cellOf pointOf cornersOf volumeOf sizeOf verdictOf verdictAt
 examples = refl

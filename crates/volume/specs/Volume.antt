@@ -4,8 +4,10 @@ use mathlib.Core.List.{List}
 use Prim.Native.Nat.{ℕ}
 use lib.Ieee.{Float, neg, lt}
 use Rattle.float32.specs.Operations.{_+f_, _-f_, _*f_, _/f_, f32, zero32}
+use Rattle.mesh.specs.Mesh.{cellOf}
 use Rattle.volume.specs.Cell.{cornersOf}
 use Rattle.volume.specs.declared.Point.{Point}
+use Rattle.volume.specs.declared.Corners.{Corners}
 use Rattle.volume.specs.declared.Verdict.{Verdict}
 use Rattle.volume.specs.declared.Verdict.the-variants.{Kept, Exchanged, Dropped}
 
@@ -23,9 +25,9 @@ crossOf u v =
 abbrev pub dotOf : Point → Point → Float
 dotOf u v = u .x *f v .x +f u .y *f v .y +f u .z *f v .z
 
--- ((b - a) × (c - a)) · (d - a) / 6
-unfoldable pub volumeOf : Point → Point → Point → Point → Float
-volumeOf a b c d = dotOf (crossOf (minusOf b a) (minusOf c a)) (minusOf d a) /f f32 0x40c0_0000
+-- document 01, "Volume": ((b - a) × (c - a)) · (d - a) / 6
+unfoldable pub volumeOf : Corners → Float
+volumeOf k = dotOf (crossOf (minusOf (k .b) (k .a)) (minusOf (k .c) (k .a))) (minusOf (k .d) (k .a)) /f f32 0x40c0_0000
 
 -- the size of x: a NaN stays one
 unfoldable pub sizeOf : Float → Float
@@ -39,20 +41,18 @@ leastOf c = c *f c *f c *f f32 0x3586_37bd
 unfoldable pub verdictOf : Float → Float → Verdict
 verdictOf v least = cond (lt (sizeOf v) least) (Dropped v) (cond (lt v zero32) (Exchanged v) (Kept v))
 
--- the verdict on the cell i
+-- the verdict on the cell i of a table of cells
 unfoldable pub verdictAt : List ℕ → List ℕ → ℕ → Float → Verdict
-verdictAt P C i least =
-    let k = cornersOf P C i in
-    verdictOf (volumeOf (k .a) (k .b) (k .c) (k .d)) least
+verdictAt P C i least = verdictOf (volumeOf (cornersOf P (cellOf C i))) least
 
 -- the four added in vertex order from zero, and divided by 4
 abbrev pub centreOf : Float → Float → Float → Float → Float
 centreOf a b c d = (zero32 +f a +f b +f c +f d) /f f32 0x4080_0000
 
-abbrev pub centroidOf : Point → Point → Point → Point → Point
-centroidOf a b c d =
+abbrev pub centroidOf : Corners → Point
+centroidOf k =
     record {
-      x = centreOf (a .x) (b .x) (c .x) (d .x);
-      y = centreOf (a .y) (b .y) (c .y) (d .y);
-      z = centreOf (a .z) (b .z) (c .z) (d .z);
+      x = centreOf (k .a .x) (k .b .x) (k .c .x) (k .d .x);
+      y = centreOf (k .a .y) (k .b .y) (k .c .y) (k .d .y);
+      z = centreOf (k .a .z) (k .b .z) (k .c .z) (k .d .z);
     }

@@ -1,11 +1,11 @@
 // The centroid and the volume of a cell, and the verdict on it. Points are bit patterns, three to a point.
 ghost use mathlib.Core.Path.{_≡_};
-ghost use Prim.Native.Nat.{_+_, _*_, _<_};
-ghost use lib.ListN.{length};
-ghost use Rattle.volume.specs.Cell.{CellIn, pointOf, cornersOf};
-ghost use Rattle.volume.specs.Volume.{minusOf, crossOf, dotOf, volumeOf, sizeOf, leastOf, verdictOf, verdictAt, centreOf, centroidOf};
+ghost use Prim.Native.Nat.{_<_};
+ghost use Rattle.mesh.specs.Mesh.{pointsOf, Points};
+ghost use Rattle.volume.specs.Cell.{pointOf, cornersOf};
+ghost use Rattle.volume.specs.Volume.{minusOf, crossOf, dotOf, volumeOf, sizeOf, leastOf, verdictOf, centreOf, centroidOf};
 use float32::to_f32;
-use lists::wide;
+use mesh::Cell;
 
 pub struct Point {
     pub x: f32,
@@ -57,11 +57,11 @@ fn dot(u: Point, v: Point) -> f32
     u.x * v.x + u.y * v.y + u.z * v.z
 }
 
-// The signed volume of the cell with corners a, b, c, d.
-pub fn volume(a: Point, b: Point, c: Point, d: Point) -> f32
-    ensures { λ r. ⌜ r ≡ volumeOf a b c d ⌝ }
+// The signed volume of a cell.
+fn volume(k: Corners) -> f32
+    ensures { λ r. ⌜ r ≡ volumeOf k ⌝ }
 {
-    dot(cross(minus(b, a), minus(c, a)), minus(d, a)) / 6.0
+    dot(cross(minus(k.b, k.a), minus(k.c, k.a)), minus(k.d, k.a)) / 6.0
 }
 
 fn size(x: f32) -> f32
@@ -77,10 +77,11 @@ pub fn least_volume(c: f32) -> f32
     c * c * c * 1.0e-6
 }
 
-// The verdict on a cell of volume v: only a strictly lesser size is dropped, so a NaN stays.
-pub fn judge(v: f32, least: f32) -> Verdict
-    ensures { λ r. ⌜ r ≡ verdictOf v least ⌝ }
+// The verdict on a cell: only a strictly lesser size than the least volume is dropped, so a NaN stays.
+pub fn verdict_on(k: Corners, least: f32) -> Verdict
+    ensures { λ r. ⌜ r ≡ verdictOf (volumeOf k) least ⌝ }
 {
+    let v = volume(k);
     if size(v) < least {
         return Verdict::Dropped(v);
     }
@@ -91,8 +92,8 @@ pub fn judge(v: f32, least: f32) -> Verdict
 }
 
 // The point i of the table.
-pub fn point_at(points: &[u32], i: usize) -> Point
-    requires { ⌜ 3 * i + 2 < length (now points) ⌝ }
+fn point_at(points: &[u32], i: usize) -> Point
+    requires { ⌜ i < pointsOf (now points) ⌝ }
     ensures { λ r. ⌜ r ≡ pointOf (now (points .entry)) i ⌝ }
 {
     let at = 3 * i;
@@ -103,26 +104,17 @@ pub fn point_at(points: &[u32], i: usize) -> Point
     }
 }
 
-// The corners of the cell i.
-pub fn corners_at(points: &[u32], cells: &[u32], i: usize) -> Corners
-    requires { ⌜ CellIn (now points) (now cells) i ⌝ }
-    ensures { λ r. ⌜ r ≡ cornersOf (now (points .entry)) (now (cells .entry)) i ⌝ }
+// The corners of a cell.
+pub fn corners_at(points: &[u32], cell: Cell) -> Corners
+    requires { ⌜ Points (pointsOf (now points)) cell ⌝ }
+    ensures { λ r. ⌜ r ≡ cornersOf (now (points .entry)) cell ⌝ }
 {
-    let at = 4 * i;
-    let a = point_at(points, wide(cells[at]));
-    let b = point_at(points, wide(cells[at + 1]));
-    let c = point_at(points, wide(cells[at + 2]));
-    let d = point_at(points, wide(cells[at + 3]));
-    Corners { a, b, c, d }
-}
-
-// The verdict on the cell i.
-pub fn verdict_at(points: &[u32], cells: &[u32], i: usize, least: f32) -> Verdict
-    requires { ⌜ CellIn (now points) (now cells) i ⌝ }
-    ensures { λ r. ⌜ r ≡ verdictAt (now (points .entry)) (now (cells .entry)) i least ⌝ }
-{
-    let corners = corners_at(points, cells, i);
-    judge(volume(corners.a, corners.b, corners.c, corners.d), least)
+    Corners {
+        a: point_at(points, cell.a),
+        b: point_at(points, cell.b),
+        c: point_at(points, cell.c),
+        d: point_at(points, cell.d),
+    }
 }
 
 // The centroid along one axis: the four added in vertex order from zero, and divided by 4.
@@ -132,12 +124,12 @@ fn centre(a: f32, b: f32, c: f32, d: f32) -> f32
     (0.0 + a + b + c + d) / 4.0
 }
 
-pub fn centroid(a: Point, b: Point, c: Point, d: Point) -> Point
-    ensures { λ r. ⌜ r ≡ centroidOf a b c d ⌝ }
+pub fn centroid(k: Corners) -> Point
+    ensures { λ r. ⌜ r ≡ centroidOf k ⌝ }
 {
     Point {
-        x: centre(a.x, b.x, c.x, d.x),
-        y: centre(a.y, b.y, c.y, d.y),
-        z: centre(a.z, b.z, c.z, d.z),
+        x: centre(k.a.x, k.b.x, k.c.x, k.d.x),
+        y: centre(k.a.y, k.b.y, k.c.y, k.d.y),
+        z: centre(k.a.z, k.b.z, k.c.z, k.d.z),
     }
 }

@@ -22,6 +22,7 @@ use Rattle.lists.specs.Tests.{any}
 use Rattle.links.specs.Labels.{shares, touched, takenOver, addCell, labels, labelAt}
 use Rattle.components.specs.Numbers.{componentNumbers}
 use Rattle.representatives.specs.Highest.{isHighest, representativesOf}
+use Rattle.mesh.specs.Mesh.{cellOf, inOrder}
 use Rattle.volume.specs.Cell.{pointOf, cornersOf}
 use Rattle.volume.specs.Volume.{volumeOf, sizeOf, verdictOf, verdictAt, leastOf}
 use Rattle.marked.specs.Weighed.{shaped, shapeAt, finalCells}
@@ -117,7 +118,7 @@ table =
     ∷ []
 
 worked : Every Says table
-unfolding Says table ofBits add sub mul div neg lt ofInt ceilTo allFinite scaleOf dimOf fitsOn stretchOf off straight straightBox counted axesOf planOf run those place noted seenOf numbersOf any shares touched takenOver addCell labels labelAt componentNumbers isHighest representativesOf pointOf cornersOf volumeOf sizeOf verdictOf verdictAt shaped shapeAt finalCells firstUses usedOf renumbered boxUp latticeVertices indexOf inRange complete octahedron axisCells centreCells latticeCells flat
+unfolding Says table ofBits add sub mul div neg lt ofInt ceilTo allFinite scaleOf dimOf fitsOn stretchOf off straight straightBox counted axesOf planOf run those place noted seenOf numbersOf any shares touched takenOver addCell labels labelAt componentNumbers isHighest representativesOf cellOf inOrder pointOf cornersOf volumeOf sizeOf verdictOf verdictAt shaped shapeAt finalCells firstUses usedOf renumbered boxUp latticeVertices indexOf inRange complete octahedron axisCells centreCells latticeCells flat
 worked =
     row refl (row refl (row refl (row refl (row refl (row octree-six (row root-and-child (row child-alone
     (row refl (row refl (row refl (row refl (row refl (row refl (row refl (row refl (row refl done))))))))))))))))

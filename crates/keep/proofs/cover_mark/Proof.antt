@@ -3,7 +3,8 @@ use mathlib.Core.Path.{refl, sym, ap, _∙_}
 use native.Mathlib.Omega.{arith}
 use borrow.Author.Tests.{eqb-true, eq-eqb, ne-eqb}
 use Rattle.lists.proofs.Tests.{failed, passed}
-use Rattle.keep.specs.Marked.{crustMark, coverIn}
+use Rattle.keep.specs.Marked.{crustMark}
+use Rattle.keep.specs.Parts.{coverIn}
 use borrow.Author.Needs.{needs}
 use Rattle.keep.proofs.cover_mark.Statement.{statement}
 use Rattle.keep.proofs.cover_mark.Tie as tie

@@ -4,7 +4,7 @@ use Prim.Native.Nat.{_-_, _/_, _≤_, _+_}
 use native.Mathlib.Omega.{arith}
 use borrow.Author.Needs.{needs}
 use lib.ListN.{length, length-set}
-use Rattle.keep.specs.Marked.{CoverAsked}
+use Rattle.keep.specs.Parts.{CoverAsked}
 use Rattle.keep.proofs.Marking.{Behind, behind-start, behind-step, probe-asked, marking-done}
 use Rattle.keep.proofs.mark_cover.Statement.{statement}
 use Rattle.keep.proofs.mark_cover.Tie as tie

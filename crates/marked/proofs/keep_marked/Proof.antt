@@ -2,7 +2,7 @@
 use mathlib.Core.Path.{_≡_, refl, sym, ap, _∙_}
 use native.Mathlib.Omega.{arith}
 use lib.Seq.{length-take-le}
-use Rattle.marked.proofs.Keeping.{used-is, kept-is, lost-is, cells-are, cells-asked, points-asked, points-are, short-points, short-cells, nothing, all-kept}
+use Rattle.marked.proofs.WaysOut.{kept-is, cells-are, cells-asked, points-asked, points-are, short-points, short-cells, nothing, all-kept}
 use borrow.Author.Needs.{needs}
 use Rattle.marked.proofs.keep_marked.Statement.{statement}
 use Rattle.marked.proofs.keep_marked.Tie as tie
@@ -19,19 +19,19 @@ same-length : tie.Need-same-length
 same-length c = search needs
 
 returns : tie.Need-returns
-returns c = short-points _ _ _ _ _ (used-is _ _ _ _ _ _ _ (c .before .before .before .tally .ensures)) (kept-is _ _ _ _ _ _ _ (c .before .before .before .tally .ensures)) (c .if1 .taken)
+returns c = short-points _ _ _ _ _ (c .before .before .before .tally .ensures .points) (kept-is _ _ _ _ _ _ _ (c .before .before .before .tally .ensures)) (c .if1 .taken)
 
 same-length-2 : tie.Need-same-length-2
 same-length-2 c = search needs
 
 returns-2 : tie.Need-returns-2
-returns-2 c = short-cells _ _ _ _ _ (used-is _ _ _ _ _ _ _ (c .before .before .before .before .tally .ensures)) (kept-is _ _ _ _ _ _ _ (c .before .before .before .before .tally .ensures)) (c .before .if1 .left) (c .if2 .taken)
+returns-2 c = short-cells _ _ _ _ _ (c .before .before .before .before .tally .ensures .points) (kept-is _ _ _ _ _ _ _ (c .before .before .before .before .tally .ensures)) (c .before .if1 .left) (c .if2 .taken)
 
 same-length-3 : tie.Need-same-length-3
 same-length-3 c = search needs
 
 returns-3 : tie.Need-returns-3
-returns-3 c = nothing _ _ _ _ _ (used-is _ _ _ _ _ _ _ (c .before .before .before .before .before .tally .ensures)) (kept-is _ _ _ _ _ _ _ (c .before .before .before .before .before .tally .ensures)) (c .before .before .if1 .left) (c .before .if2 .left) (c .if3 .taken)
+returns-3 c = nothing _ _ _ _ _ (c .before .before .before .before .before .tally .ensures .points) (kept-is _ _ _ _ _ _ _ (c .before .before .before .before .before .tally .ensures)) (c .before .before .if1 .left) (c .before .if2 .left) (c .if3 .taken)
 
 mul-point-places : tie.Need-mul-point-places
 mul-point-places c = search needs
@@ -73,7 +73,7 @@ same-length-6 : tie.Need-same-length-6
 same-length-6 c = search needs
 
 returns-4 : tie.Need-returns-4
-returns-4 c = all-kept _ _ _ _ _ (used-is _ _ _ _ _ _ _ (c .before .before .before .before .before .before .before .before .before .before .before .before .before .before .before .tally .ensures)) (kept-is _ _ _ _ _ _ _ (c .before .before .before .before .before .before .before .before .before .before .before .before .before .before .before .tally .ensures)) (c .before .before .before .before .before .before .before .before .before .before .before .before .if1 .left) (c .before .before .before .before .before .before .before .before .before .before .before .if2 .left) (lost-is _ _ _ _ _ _ _ (c .before .before .before .before .before .before .before .before .before .before .before .before .before .before .before .tally .ensures)) (c .before .before .before .before .before .before .before .before .before .before .if3 .left) (points-are _ _ _ _ _ _ _ (c .before .before .before .before .before .before .before .before .before .before .before .before .before .before .before .tally .ensures) _ _ (c .before .before .before .before .before .before .before .before .before .before .before .before .if1 .left) (c .before .before .store-points .ensures)) (c .before .before .before .before .before .before .before .store-cells .ensures ∙ cells-are _ _ _ _ _ _ _ (c .before .before .before .before .before .before .before .before .before .before .before .before .before .before .before .tally .ensures))
+returns-4 c = all-kept _ _ _ _ _ (c .before .before .before .before .before .before .before .before .before .before .before .before .before .before .before .tally .ensures .points) (kept-is _ _ _ _ _ _ _ (c .before .before .before .before .before .before .before .before .before .before .before .before .before .before .before .tally .ensures)) (c .before .before .before .before .before .before .before .before .before .before .before .before .if1 .left) (c .before .before .before .before .before .before .before .before .before .before .before .if2 .left) (c .before .before .before .before .before .before .before .before .before .before .before .before .before .before .before .tally .ensures .dropped) (c .before .before .before .before .before .before .before .before .before .before .if3 .left) (points-are _ _ _ _ _ _ _ (c .before .before .before .before .before .before .before .before .before .before .before .before .before .before .before .tally .ensures) _ _ (c .before .before .before .before .before .before .before .before .before .before .before .before .if1 .left) (c .before .before .store-points .ensures)) (c .before .before .before .before .before .before .before .store-cells .ensures ∙ cells-are _ _ _ _ _ _ _ (c .before .before .before .before .before .before .before .before .before .before .before .before .before .before .before .tally .ensures))
 
 pub keep-marked-spec : {M : Type 1} → statement M
 keep-marked-spec =

@@ -1,4 +1,5 @@
 use native.Mathlib.Omega.{arith}
+use Rattle.mesh.specs.Mesh.{inOrder}
 use Rattle.marked.specs.Used.{firstUses}
 use borrow.Author.Needs.{needs}
 use Rattle.marked.proofs.note_corners.Statement.{statement}
@@ -23,15 +24,19 @@ same-length : tie.Need-same-length
 same-length c = search needs
 
 returns : tie.Need-returns
-unfolding firstUses
+unfolding firstUses inOrder
 returns c =
+    let one = c .before .before .before .before .before .before .before .before .before .before .before .before .before .before .note .ensures in
+    let two = c .before .before .before .before .before .before .before .before .before .before .note2 .ensures in
+    let three = c .before .before .before .before .before .before .note3 .ensures in
+    let four = c .before .before .note4 .ensures in
     record {
       numbered = λ s t e.
-          let p = c .before .before .before .before .before .before .before .before .before .before .before .before .before .before .note .ensures .numbered s t e in
-          let q = c .before .before .before .before .before .before .before .before .before .before .note2 .ensures .numbered _ (p .0) (p .1) in
-          let r = c .before .before .before .before .before .before .note3 .ensures .numbered _ (q .0) (q .1) in
-          c .before .before .note4 .ensures .numbered _ (r .0) (r .1);
-      few = omega (arith, c .before .before .before .before .before .before .before .before .before .before .before .before .before .before .note .ensures .few, c .before .before .before .before .before .before .before .before .before .before .note2 .ensures .few, c .before .before .before .before .before .before .note3 .ensures .few, c .before .before .note4 .ensures .few);
+          let p = one .numbered s t e in
+          let q = two .numbered _ (p .0) (p .1) in
+          let r = three .numbered _ (q .0) (q .1) in
+          four .numbered _ (r .0) (r .1);
+      few = omega (arith, one .few, two .few, three .few, four .few);
     }
 
 pub note-corners-spec : {M : Type 1} → statement M

@@ -1,14 +1,19 @@
-use mathlib.Core.Path.{refl, sym, _∙_}
-use Rattle.marked.specs.Weighed.{shaped, isDropped, codeOf}
-use Rattle.marked.proofs.Weighing.{cell-in, stay-asked, weighed-not, weighed-stays, weighed-lost}
+use mathlib.Core.Path.{refl, sym, ap, _∙_}
+use Rattle.mesh.specs.Mesh.{inOrder, exchanged}
+use Rattle.volume.specs.Volume.{verdictAt}
+use Rattle.marked.specs.Weighed.{shaped, isDropped}
+use Rattle.marked.specs.Parts.{codeOf}
+use Rattle.marked.proofs.Weighing.{corners-in, stay-asked, exchange-asked, weighed-not, weighed-stays, weighed-lost}
 use borrow.Author.Needs.{needs}
 use Rattle.marked.proofs.weigh.Statement.{statement}
 use Rattle.marked.proofs.weigh.Tie as tie
 use Rattle.marked.proofs.weigh.Reads as reads
 use Rattle.marked.proofs.weigh.Lts as lts
+use Rattle.marked.proofs.exchange.Reads as exchange-reads
 use Rattle.marked.proofs.stay.Reads as stay-reads
-use Rattle.lists.proofs.wide.Reads as wide-reads
-use Rattle.volume.proofs.verdict_at.Reads as verdict-at-reads
+use Rattle.mesh.proofs.cell_at.Reads as cell-at-reads
+use Rattle.volume.proofs.corners_at.Reads as corners-at-reads
+use Rattle.volume.proofs.verdict_on.Reads as verdict-on-reads
 
 add-entry : tie.Need-add-entry
 add-entry c = search needs
@@ -20,70 +25,31 @@ slice-read-if1 : tie.Need-slice-read-if1
 slice-read-if1 c = search needs
 
 returns : tie.Need-returns
-returns c = weighed-not _ _ _ _ _ _ _ _ _ (c .if1 .taken)
+returns c = weighed-not _ _ _ _ _ _ _ (c .if1 .taken)
 
-mul-at : tie.Need-mul-at
-mul-at c = search needs
+cell-at-requires : tie.Need-cell-at-requires
+cell-at-requires c κs = search needs
 
-mul-wide : tie.Need-mul-wide
-mul-wide c = search needs
+corners-at-requires : tie.Need-corners-at-requires
+corners-at-requires c κs = corners-in (c .before .before .before .before .before .before .pre) (c .cell-at .ensures)
 
-shared-slice-read-wide : tie.Need-shared-slice-read-wide
-shared-slice-read-wide c = search needs
-
-wide-requires : tie.Need-wide-requires
-wide-requires c κs = search needs
-
-add-wide : tie.Need-add-wide
-add-wide c = search needs
-
-mul-wide-2 : tie.Need-mul-wide-2
-mul-wide-2 c = search needs
-
-shared-slice-read-wide-2 : tie.Need-shared-slice-read-wide-2
-shared-slice-read-wide-2 c = search needs
-
-wide-requires-2 : tie.Need-wide-requires-2
-wide-requires-2 c κs = search needs
-
-add-wide-2 : tie.Need-add-wide-2
-add-wide-2 c = search needs
-
-mul-wide-3 : tie.Need-mul-wide-3
-mul-wide-3 c = search needs
-
-shared-slice-read-wide-3 : tie.Need-shared-slice-read-wide-3
-shared-slice-read-wide-3 c = search needs
-
-wide-requires-3 : tie.Need-wide-requires-3
-wide-requires-3 c κs = search needs
-
-add-wide-3 : tie.Need-add-wide-3
-add-wide-3 c = search needs
-
-mul-wide-4 : tie.Need-mul-wide-4
-mul-wide-4 c = search needs
-
-shared-slice-read-wide-4 : tie.Need-shared-slice-read-wide-4
-shared-slice-read-wide-4 c = search needs
-
-wide-requires-4 : tie.Need-wide-requires-4
-wide-requires-4 c κs = search needs
-
-verdict-at-requires : tie.Need-verdict-at-requires
-verdict-at-requires c κs = cell-in (c .before .before .before .before .before .before .before .before .before .before .before .before .before .pre .marks) _ (c .before .before .before .before .before .before .before .before .before .before .before .before .before .pre .inside)
+verdict-on-requires : tie.Need-verdict-on-requires
+verdict-on-requires c κs = search needs
 
 enum-told : tie.Need-enum-told
 enum-told c = search needs
 
 stay-requires : tie.Need-stay-requires
-stay-requires c κs = stay-asked (c .before .before .before .before .before .before .before .before .before .before .before .before .before .before .before .before .before .pre) (c .before .before .before .before .before .before .before .before .before .before .wide .ensures) (c .before .before .before .before .before .before .before .before .wide2 .ensures) (c .before .before .before .before .before .before .wide3 .ensures) (c .before .before .before .before .wide4 .ensures) .0
+stay-requires c κs = stay-asked (c .before .before .before .before .before .before .before .before .before .before .before .pre) (c .before .before .before .before .before .cell-at .ensures)
 
 enum-told-2 : tie.Need-enum-told-2
 enum-told-2 c = search needs
 
+exchange-requires : tie.Need-exchange-requires
+exchange-requires c κs = search needs
+
 stay-requires-2 : tie.Need-stay-requires-2
-stay-requires-2 c κs = stay-asked (c .before .before .before .before .before .before .before .before .before .before .before .before .before .before .before .before .before .pre) (c .before .before .before .before .before .before .before .before .before .before .wide .ensures) (c .before .before .before .before .before .before .before .before .wide2 .ensures) (c .before .before .before .before .before .before .wide3 .ensures) (c .before .before .before .before .wide4 .ensures) .1
+stay-requires-2 c κs = exchange-asked (c .before .before .before .before .before .before .before .before .before .before .before .before .pre) (c .before .before .before .before .before .before .cell-at .ensures) (c .exchange .ensures)
 
 enum-told-3 : tie.Need-enum-told-3
 enum-told-3 c = search needs
@@ -94,29 +60,37 @@ mul-work c = search needs
 slice-write-work : tie.Need-slice-write-work
 slice-write-work c = search needs
 
-add-t31 : tie.Need-add-t31
-add-t31 c = search needs
+add-t22 : tie.Need-add-t22
+add-t22 c = search needs
 
 same-length : tie.Need-same-length
 same-length c = search needs
 
 returns-2 : tie.Need-returns-2
-unfolding codeOf shaped isDropped
-returns-2 c = weighed-stays _ _ _ _ _ _ _ _ _ (c .before .before .before .before .before .before .before .before .before .before .before .before .before .before .before .if1 .left) _ (sym (c .before .before .before .before .enum-told .given .1) ∙ c .before .before .before .before .before .before .verdict-at .ensures) refl (rw (c .before .before .before .before .before .before .before .before .before .before .before .before .before .wide .ensures, c .before .before .before .before .before .before .before .before .before .before .before .wide2 .ensures, c .before .before .before .before .before .before .before .before .before .wide3 .ensures, c .before .before .before .before .before .before .before .wide4 .ensures) refl) refl (c .before .before .stay .ensures)
+unfolding codeOf shaped isDropped verdictAt
+returns-2 c =
+    weighed-stays _ _ _ _ _ _ _ (c .before .before .before .before .before .before .before .before .before .if1 .left) _
+    (sym (c .before .before .before .before .enum-told .given .1) ∙ c .before .before .before .before .before .before .verdict-on .ensures ∙ rw (c .before .before .before .before .before .before .before .corners-at .ensures, c .before .before .before .before .before .before .before .before .cell-at .ensures) refl) refl
+    (ap inOrder (sym (c .before .before .before .before .before .before .before .before .cell-at .ensures))) refl (c .before .before .stay .ensures)
 
 same-length-2 : tie.Need-same-length-2
 same-length-2 c = search needs
 
 returns-3 : tie.Need-returns-3
-unfolding codeOf shaped isDropped
-returns-3 c = weighed-stays _ _ _ _ _ _ _ _ _ (c .before .before .before .before .before .before .before .before .before .before .before .before .before .before .before .if1 .left) _ (sym (c .before .before .before .before .enum-told2 .given .1) ∙ c .before .before .before .before .before .before .verdict-at .ensures) refl (rw (c .before .before .before .before .before .before .before .before .before .before .before .before .before .wide .ensures, c .before .before .before .before .before .before .before .before .before .before .before .wide2 .ensures, c .before .before .before .before .before .before .before .before .before .wide3 .ensures, c .before .before .before .before .before .before .before .wide4 .ensures) refl) refl (c .before .before .stay2 .ensures)
+unfolding codeOf shaped isDropped verdictAt
+returns-3 c =
+    weighed-stays _ _ _ _ _ _ _ (c .before .before .before .before .before .before .before .before .before .before .if1 .left) _
+    (sym (c .before .before .before .before .before .enum-told2 .given .1) ∙ c .before .before .before .before .before .before .before .verdict-on .ensures ∙ rw (c .before .before .before .before .before .before .before .before .corners-at .ensures, c .before .before .before .before .before .before .before .before .before .cell-at .ensures) refl) refl
+    (ap inOrder (sym (c .before .before .before .exchange .ensures ∙ ap exchanged (c .before .before .before .before .before .before .before .before .before .cell-at .ensures)))) refl (c .before .before .stay2 .ensures)
 
 same-length-3 : tie.Need-same-length-3
 same-length-3 c = search needs
 
 returns-4 : tie.Need-returns-4
-unfolding codeOf shaped isDropped
-returns-4 c = weighed-lost _ _ _ _ _ _ _ _ _ (c .before .before .before .before .before .before .before .before .before .before .before .if1 .left) _ (sym (c .enum-told3 .given .1) ∙ c .before .before .verdict-at .ensures) refl refl refl
+unfolding codeOf shaped isDropped verdictAt
+returns-4 c =
+    weighed-lost _ _ _ _ _ _ _ (c .before .before .before .before .before .before .if1 .left) _
+    (sym (c .before .enum-told3 .given .1) ∙ c .before .before .before .verdict-on .ensures ∙ rw (c .before .before .before .before .corners-at .ensures, c .before .before .before .before .before .cell-at .ensures) refl) refl refl refl
 
 pub weigh-spec : {M : Type 1} → statement M
 weigh-spec =
@@ -126,31 +100,18 @@ weigh-spec =
     mul-if1
     slice-read-if1
     returns
-    mul-at
-    mul-wide
-    shared-slice-read-wide
-    wide-requires
-    add-wide
-    mul-wide-2
-    shared-slice-read-wide-2
-    wide-requires-2
-    add-wide-2
-    mul-wide-3
-    shared-slice-read-wide-3
-    wide-requires-3
-    add-wide-3
-    mul-wide-4
-    shared-slice-read-wide-4
-    wide-requires-4
-    verdict-at-requires
+    cell-at-requires
+    corners-at-requires
+    verdict-on-requires
     enum-told
     stay-requires
     enum-told-2
+    exchange-requires
     stay-requires-2
     enum-told-3
     mul-work
     slice-write-work
-    add-t31
+    add-t22
     same-length
     returns-2
     same-length-2

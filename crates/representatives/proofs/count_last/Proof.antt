@@ -6,7 +6,8 @@ use borrow.Author.Needs.{needs}
 use lib.ListN.{length}
 use Rattle.lists.specs.Runs.{run, those}
 use Rattle.representatives.specs.Parts.{isLast}
-use Rattle.representatives.proofs.Listing.{readable, count-next, counted}
+use Rattle.representatives.proofs.Listing.{readable, counted}
+use Rattle.lists.proofs.Passing.{count-next}
 use Rattle.representatives.proofs.count_last.Statement.{statement}
 use Rattle.representatives.proofs.count_last.Tie as tie
 use Rattle.representatives.proofs.count_last.Reads as reads

@@ -1,7 +1,7 @@
 use mathlib.Core.Path.{sym, _∙_}
 use mathlib.Core.List.{[]}
 use lib.Seq.{length-take-le}
-use Rattle.representatives.proofs.WaysOut.{refused, work-fits, settling, done}
+use Rattle.representatives.proofs.WaysOut.{refused, work-fits, laid, done}
 use borrow.Author.Needs.{needs}
 use Rattle.representatives.proofs.representatives.Statement.{statement}
 use Rattle.representatives.proofs.representatives.Tie as tie
@@ -26,7 +26,7 @@ slice-aggregate-represent : tie.Need-slice-aggregate-represent
 slice-aggregate-represent c = sym (length-take-le _ _ (work-fits _ _ _ _ (sym (c .before .before .before .before .judge .ensures) ∙ c .before .before .before .if1 .left)))
 
 represent-requires : tie.Need-represent-requires
-represent-requires c κs = settling _ _ _ [] [] _ (sym (c .before .before .before .before .judge .ensures) ∙ c .before .before .before .if1 .left)
+represent-requires c κs = laid _ _ _ [] [] _ (sym (c .before .before .before .before .judge .ensures) ∙ c .before .before .before .if1 .left)
 
 same-length : tie.Need-same-length
 same-length c = search needs

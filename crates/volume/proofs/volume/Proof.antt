@@ -1,5 +1,5 @@
-use borrow.Author.Needs.{needs}
 use Rattle.volume.specs.Volume.{volumeOf}
+use borrow.Author.Needs.{needs}
 use Rattle.volume.proofs.volume.Statement.{statement}
 use Rattle.volume.proofs.volume.Tie as tie
 use Rattle.volume.proofs.volume.Reads as reads
@@ -25,14 +25,7 @@ dot-requires c κs = search needs
 
 returns : tie.Need-returns
 unfolding volumeOf
-returns c =
-    rw (
-      c .dot .ensures,
-      c .before .minus3 .ensures,
-      c .before .before .cross .ensures,
-      c .before .before .before .minus2 .ensures,
-      c .before .before .before .before .minus .ensures,
-    )
+returns c = rw (c .dot .ensures, c .before .minus3 .ensures, c .before .before .cross .ensures, c .before .before .before .minus2 .ensures, c .before .before .before .before .minus .ensures)
 
 pub volume-spec : {M : Type 1} → statement M
 volume-spec =
