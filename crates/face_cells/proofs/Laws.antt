@@ -10,10 +10,14 @@ use Rattle.lists.specs.Runs.{Stored, Room}
 use Rattle.lists.proofs.Running.{stored-both, room-as, room-first}
 use Rattle.sides.specs.declared.Beside.{Beside}
 use Rattle.sides.specs.declared.Beside.the-variants.{Split, Equal, Given, Coarser, Border}
+use Rattle.sides.specs.declared.Edges.{Edges}
 use Rattle.sides.specs.declared.Sides.{Sides}
+use Rattle.space.specs.Space.{Axis, ax, ay, az}
+use Rattle.vertex_keys.specs.Keys.{stride, mostKeys}
+use Rattle.face_cells.specs.declared.Edge.{Edge}
 use Rattle.face_cells.specs.declared.Quad.{Quad}
-use Rattle.face_cells.specs.declared.Octant.{Octant}
-use Rattle.face_cells.specs.Numbers.{overNumbers, fanNumbers, halvesNumbers, turnedNumbers, faceNumbers, lowFace, highFace, axisNumbers, octantAt, fromNext, axisKeyed, leafNumbers, turnsOf}
+use Rattle.face_cells.specs.declared.Corners.{Corners}
+use Rattle.face_cells.specs.Parts.{overNumbers, fanNumbers, allFine, halvesNumbers, turnedNumbers, faceNumbers, lowFace, highFace, axisNumbers, cornersAt, fromNext, axisKeyed, leafNumbers, turnsOf}
 
 -- ---- room
 
@@ -42,19 +46,21 @@ module _ {o o₁ o₂ K : List ℕ} {at a b c d e f g h : ℕ} where
 
 -- ---- an edge
 
-pub over-fine : (t : Bool) (p q a m n b : ℕ) → t ≡ true → n ≡ m → overNumbers t p q a m b ≡ (p ∷ q ∷ a ∷ n ∷ []) ++ (p ∷ q ∷ n ∷ b ∷ [])
-unfolding overNumbers
-over-fine t p q a m n b h e = rw (h, e) refl
+module _ (number : ℕ → ℕ) (t : Bool) (e : Edge) where
+  pub over-fine : (n : ℕ) → t ≡ true → n ≡ number (e .m)
+      → overNumbers number t e ≡ (e .p ∷ e .q ∷ e .a ∷ n ∷ []) ++ (e .p ∷ e .q ∷ n ∷ e .b ∷ [])
+  unfolding overNumbers
+  over-fine n h g = rw (h, g) refl
 
-pub over-plain : (t : Bool) (p q a m b : ℕ) → t ≡ false → overNumbers t p q a m b ≡ p ∷ q ∷ a ∷ b ∷ []
-unfolding overNumbers
-over-plain t p q a m b h = rw h refl
+  pub over-plain : t ≡ false → overNumbers number t e ≡ e .p ∷ e .q ∷ e .a ∷ e .b ∷ []
+  unfolding overNumbers
+  over-plain h = rw h refl
 
-pub room-fine : (t : Bool) (p q a m b : ℕ) {o : List ℕ} {at : ℕ} → t ≡ true → Room o at (overNumbers t p q a m b) → at + 8 ≤ length o
-room-fine t p q a m b h r = omega (arith, r .fits, ap length (over-fine t p q a m m b h refl))
+  pub room-fine : {o : List ℕ} {at : ℕ} → t ≡ true → Room o at (overNumbers number t e) → at + 8 ≤ length o
+  room-fine h r = omega (arith, r .fits, ap length (over-fine (number (e .m)) h refl))
 
-pub room-plain : (t : Bool) (p q a m b : ℕ) {o : List ℕ} {at : ℕ} → t ≡ false → Room o at (overNumbers t p q a m b) → at + 4 ≤ length o
-room-plain t p q a m b h r = omega (arith, r .fits, ap length (over-plain t p q a m b h))
+  pub room-plain : {o : List ℕ} {at : ℕ} → t ≡ false → Room o at (overNumbers number t e) → at + 4 ≤ length o
+  room-plain h r = omega (arith, r .fits, ap length (over-plain h))
 
 -- ---- the half-pyramids from another corner on
 
@@ -96,12 +102,12 @@ turned-room (suc n) c p q r s h = turned-room n c q r s p h
 
 module _ (number : ℕ → ℕ) (side : Beside) (c : ℕ) (f : Quad) where
   pub face-split : (m : ℕ) → side ≡ Split → m ≡ number (f .k + f .v + f .w)
-      → faceNumbers number side c f ≡ fanNumbers number m c f true true true true
+      → faceNumbers number side c f ≡ fanNumbers number m c f allFine
   unfolding faceNumbers
   face-split m e g = rw (e, g) refl
 
-  pub face-equal : (o : ℕ) {e0 e1 e2 e3 : Bool} → side ≡ Equal e0 e1 e2 e3 → o ≡ number (f .k + f .u + f .v + f .w)
-      → faceNumbers number side c f ≡ fanNumbers number c o f e0 e1 e2 e3
+  pub face-equal : (o : ℕ) {fine : Edges} → side ≡ Equal fine → o ≡ number (f .k + f .u + f .v + f .w)
+      → faceNumbers number side c f ≡ fanNumbers number c o f fine
   unfolding faceNumbers
   face-equal o e g = rw (e, g) refl
 
@@ -120,9 +126,9 @@ module _ (number : ℕ → ℕ) (side : Beside) (c : ℕ) (f : Quad) where
 pub turns-few : (side : Beside) {n : ℕ} → side ≡ Coarser n → turnsOf side ≤ 3 → n ≤ 3
 turns-few side e h = rw e at h
 
--- ---- the faces of an octant
+-- ---- the faces of a leaf
 
-module _ (o : Octant) where
+module _ (o : Corners) where
   pub low-small : {f : Quad} → f ≡ lowFace o → o .k + 3 * o .u + 2 * o .v + 2 * o .w < 2 ^ 64 → f .k + f .u + 2 * f .v + 2 * f .w < 2 ^ 64
   low-small e h = rw e (omega (arith, h))
 
@@ -134,35 +140,46 @@ module _ (o : Octant) where
   unfolding axisNumbers
   axis-faces number low high e e′ = rw (e, e′) refl
 
--- ---- an octant from each of its axes on
+-- ---- a leaf from each of its axes on
 
-module _ (number : ℕ → ℕ) (k u v w : ℕ) {o : Octant} (at : o ≡ octantAt number k u v w) where
-  octant-small : k + 3 * u + 3 * v + 3 * w < 2 ^ 64 → o .k + 3 * o .u + 2 * o .v + 2 * o .w < 2 ^ 64
-  unfolding octantAt
-  octant-small h = rw at (omega (arith, h))
+next-at : (number : ℕ → ℕ) (k u v w : ℕ) {o n : Corners} → o ≡ cornersAt number k u v w → n ≡ fromNext o → n ≡ cornersAt number k v w u
+unfolding cornersAt
+next-at number k u v w at e =
+    let middle : k + u + v + w ≡ k + v + w + u = omega arith in
+    let seventh : k + 2 * u + 2 * v + 2 * w ≡ k + 2 * v + 2 * w + 2 * u = omega arith in
+    let fifth : k + 2 * u + 2 * v ≡ k + 2 * v + 2 * u = omega arith in
+    let sixth : k + 2 * u + 2 * w ≡ k + 2 * w + 2 * u = omega arith in
+    rw (e, at, middle, seventh, fifth, sixth) refl
 
-  next-at : {n : Octant} → n ≡ fromNext o → n ≡ octantAt number k v w u
-  unfolding octantAt
-  next-at e =
-      let middle : k + u + v + w ≡ k + v + w + u = omega arith in
-      let seventh : k + 2 * u + 2 * v + 2 * w ≡ k + 2 * v + 2 * w + 2 * u = omega arith in
-      let fifth : k + 2 * u + 2 * v ≡ k + 2 * v + 2 * u = omega arith in
-      let sixth : k + 2 * u + 2 * w ≡ k + 2 * w + 2 * u = omega arith in
-      rw (e, at, middle, seventh, fifth, sixth) refl
+module _ (number : ℕ → ℕ) (k h : ℕ) {x y z : Corners}
+    (from-x : x ≡ cornersAt number k (h * stride ax) (h * stride ay) h) (from-y : y ≡ fromNext x) (from-z : z ≡ fromNext y) where
+  abbrev at : Axis → Axis → Axis → Corners
+  at a b c = cornersAt number k (h * stride a) (h * stride b) (h * stride c)
 
-module _ (number : ℕ → ℕ) (k u v w : ℕ) {x y z : Octant} (from-x : x ≡ octantAt number k u v w) (from-y : y ≡ fromNext x) (from-z : z ≡ fromNext y) where
-  y-at : y ≡ octantAt number k v w u
-  y-at = next-at number k u v w from-x from-y
+  x-at : x ≡ at ax ay az
+  x-at = let e : h ≡ h * 1 = omega arith in from-x ∙ ap (λ (w : ℕ). cornersAt number k (h * stride ax) (h * stride ay) w) e
 
-  z-at : z ≡ octantAt number k w u v
-  z-at = next-at number k v w u y-at from-z
+  y-at : y ≡ at ay az ax
+  y-at = next-at number k _ _ _ x-at from-y
 
-  pub all-small : k + 3 * u + 3 * v + 3 * w < 2 ^ 64
+  z-at : z ≡ at az ax ay
+  z-at = next-at number k _ _ _ y-at from-z
+
+  -- the keys of a leaf are small
+  small : {o : Corners} (a b c : Axis) → o ≡ at a b c → k < mostKeys → h ≤ 32 → o .k + 3 * o .u + 2 * o .v + 2 * o .w < 2 ^ 64
+  unfolding cornersAt
+  small a b c e p q = rw e (omega (arith, p, wide a q, wide b q, wide c q))
+    where
+      wide : (a : Axis) → h ≤ 32 → h * stride a ≤ 2147483648
+      wide ax q = omega arith
+      wide ay q = omega arith
+      wide az q = omega arith
+
+  pub all-small : k < mostKeys → h ≤ 32
       → (x .k + 3 * x .u + 2 * x .v + 2 * x .w < 2 ^ 64) × (y .k + 3 * y .u + 2 * y .v + 2 * y .w < 2 ^ 64) × (z .k + 3 * z .u + 2 * z .v + 2 * z .w < 2 ^ 64)
-  all-small h = (octant-small number k u v w from-x h, octant-small number k v w u y-at (omega (arith, h)), octant-small number k w u v z-at (omega (arith, h)))
+  all-small p q = (small ax ay az x-at p q, small ay az ax y-at p q, small az ax ay z-at p q)
 
   pub leaf-axes : (f : Sides)
-      → leafNumbers number f k u v w
-      ≡ axisNumbers number (f .x0) (f .x1) x ++ (axisNumbers number (f .y0) (f .y1) y ++ axisNumbers number (f .z0) (f .z1) z)
+      → leafNumbers number f k h ≡ axisNumbers number (f .x0) (f .x1) x ++ (axisNumbers number (f .y0) (f .y1) y ++ axisNumbers number (f .z0) (f .z1) z)
   unfolding leafNumbers axisKeyed
-  leaf-axes f = rw (from-x, y-at, z-at) refl
+  leaf-axes f = rw (x-at, y-at, z-at) refl

@@ -8,31 +8,29 @@ use Rattle.space.specs.Space.{Axis, ax, ay, az, Pos, pos, next}
 use Rattle.octants.specs.Oct.{width, Closed}
 use Rattle.octants.specs.Table.{read}
 use Rattle.octree_cells.specs.Cells.{corner, Cell, cell, Face, face, faceCentre, centre, middle, beside, end, turned, turnsTo, same, over, fan, halves, cellsTo, Side, split, equal, coarser, border, side, finer, faceCells, axisCells, leafCells, flat}
+use Rattle.octree_cells.proofs.Flat.{flat-append}
 use Rattle.octree_cells.proofs.Points.{Here, drawn-centre, drawn-opposite, drawn-face, drawn-middle, small, by-axis, DrawnFace}
 use Rattle.octree_cells.specs.Leaf.{IsLeaf}
 use Rattle.vertex_keys.specs.Keys.{keyOf, stride}
 use Rattle.sides.specs.Told.{told, besideAt, sidesAt}
 use Rattle.sides.proofs.Ties.{AllFine, split-fine}
 use Rattle.face_cells.specs.declared.Quad.{Quad}
-use Rattle.face_cells.specs.Numbers.{overNumbers, fanNumbers, halvesNumbers, turnedNumbers, faceNumbers, axisNumbers, octantAt, axisKeyed, leafNumbers, Turns, AllTurn}
+use Rattle.face_cells.specs.declared.Edge.{Edge}
+use Rattle.sides.specs.declared.Edges.{Edges}
+use Rattle.face_cells.specs.Parts.{overNumbers, edge0, edge1, edge2, edge3, fanNumbers, allFine, halvesNumbers, turnedNumbers, faceNumbers, axisNumbers, cornersAt, axisKeyed, leafNumbers, Turns, AllTurn}
 
 -- ---- the vertices of cells under a naming
 
-pub flat-append : (f : Pos → ℕ) (a b : List Cell) → flat f (a ++ b) ≡ flat f a ++ flat f b
-unfolding flat
-flat-append f [] b = refl
-flat-append f (c ∷ a) b = ap (λ (t : List ℕ). f (c .c0) ∷ f (c .c1) ∷ f (c .c2) ∷ f (c .c3) ∷ t) (flat-append f a b)
-
-module _ (f : Pos → ℕ) where
-  flat-over : (fine : Pos → Bool) (p q a b : Pos) (t : Bool) (p′ q′ a′ m′ b′ : ℕ)
-      → fine (middle a b) ≡ t → f p ≡ p′ → f q ≡ q′ → f a ≡ a′ → f (middle a b) ≡ m′ → f b ≡ b′
-      → flat f (over fine p q a b) ≡ overNumbers t p′ q′ a′ m′ b′
+module _ (f : Pos → ℕ) (number : ℕ → ℕ) where
+  flat-over : (fine : Pos → Bool) (p q a b : Pos) (t : Bool) (e : Edge)
+      → fine (middle a b) ≡ t → f p ≡ e .p → f q ≡ e .q → f a ≡ e .a → f (middle a b) ≡ number (e .m) → f b ≡ e .b
+      → flat f (over fine p q a b) ≡ overNumbers number t e
   unfolding flat over overNumbers
-  flat-over fine p q a b t p′ q′ a′ m′ b′ et ep eq ea em eb =
+  flat-over fine p q a b t e et ep eq ea em eb =
       ap (λ (c : Bool). flat f (cond c (cell p q a (middle a b) ∷ cell p q (middle a b) b ∷ []) (cell p q a b ∷ []))) et ∙ go t
     where
       go : (c : Bool) → flat f (cond c (cell p q a (middle a b) ∷ cell p q (middle a b) b ∷ []) (cell p q a b ∷ []))
-          ≡ cond c (p′ ∷ q′ ∷ a′ ∷ m′ ∷ p′ ∷ q′ ∷ m′ ∷ b′ ∷ []) (p′ ∷ q′ ∷ a′ ∷ b′ ∷ [])
+          ≡ cond c (e .p ∷ e .q ∷ e .a ∷ number (e .m) ∷ e .p ∷ e .q ∷ number (e .m) ∷ e .b ∷ []) (e .p ∷ e .q ∷ e .a ∷ e .b ∷ [])
       go true = cc
       go false = cc
 
@@ -41,20 +39,20 @@ module _ (f : Pos → ℕ) where
       rw (e0, e1, e2, e3) (append-assoc (a′ ++ b′) c′ d′ ∙ append-assoc a′ b′ (c′ ++ d′))
 
   -- four edges, with the numbers of the corners and the keys of the midpoints
-  flat-fan : (fine : Pos → Bool) (number : ℕ → ℕ) (p q : Pos) (g : Face) (t0 t1 t2 t3 : Bool) (p′ q′ : ℕ) (h : Quad)
-      → fine (middle (g .p0) (g .p1)) ≡ t0 → fine (middle (g .p1) (g .p2)) ≡ t1 → fine (middle (g .p2) (g .p3)) ≡ t2 → fine (middle (g .p3) (g .p0)) ≡ t3
+  flat-fan : (fine : Pos → Bool) (p q : Pos) (g : Face) (t : Edges) (p′ q′ : ℕ) (h : Quad)
+      → fine (middle (g .p0) (g .p1)) ≡ t .e0 → fine (middle (g .p1) (g .p2)) ≡ t .e1 → fine (middle (g .p2) (g .p3)) ≡ t .e2 → fine (middle (g .p3) (g .p0)) ≡ t .e3
       → f p ≡ p′ → f q ≡ q′ → f (g .p0) ≡ h .p0 → f (g .p1) ≡ h .p1 → f (g .p2) ≡ h .p2 → f (g .p3) ≡ h .p3
       → f (middle (g .p0) (g .p1)) ≡ number (h .k + h .v) → f (middle (g .p1) (g .p2)) ≡ number (h .k + 2 * h .v + h .w)
       → f (middle (g .p2) (g .p3)) ≡ number (h .k + 2 * h .w + h .v) → f (middle (g .p3) (g .p0)) ≡ number (h .k + h .w)
-      → flat f (fan fine p q g) ≡ fanNumbers number p′ q′ h t0 t1 t2 t3
+      → flat f (fan fine p q g) ≡ fanNumbers number p′ q′ h t
   unfolding fan fanNumbers
-  flat-fan fine number p q g t0 t1 t2 t3 p′ q′ h s0 s1 s2 s3 ep eq e0 e1 e2 e3 m0 m1 m2 m3 =
+  flat-fan fine p q g t p′ q′ h s0 s1 s2 s3 ep eq e0 e1 e2 e3 m0 m1 m2 m3 =
       simp (flat-append f)
       (four-lists
-      (flat-over fine p q (g .p0) (g .p1) t0 p′ q′ (h .p0) (number (h .k + h .v)) (h .p1) s0 ep eq e0 m0 e1)
-      (flat-over fine p q (g .p1) (g .p2) t1 p′ q′ (h .p1) (number (h .k + 2 * h .v + h .w)) (h .p2) s1 ep eq e1 m1 e2)
-      (flat-over fine p q (g .p2) (g .p3) t2 p′ q′ (h .p2) (number (h .k + 2 * h .w + h .v)) (h .p3) s2 ep eq e2 m2 e3)
-      (flat-over fine p q (g .p3) (g .p0) t3 p′ q′ (h .p3) (number (h .k + h .w)) (h .p0) s3 ep eq e3 m3 e0))
+      (flat-over fine p q (g .p0) (g .p1) (t .e0) (edge0 p′ q′ h) s0 ep eq e0 m0 e1)
+      (flat-over fine p q (g .p1) (g .p2) (t .e1) (edge1 p′ q′ h) s1 ep eq e1 m1 e2)
+      (flat-over fine p q (g .p2) (g .p3) (t .e2) (edge2 p′ q′ h) s2 ep eq e2 m2 e3)
+      (flat-over fine p q (g .p3) (g .p0) (t .e3) (edge3 p′ q′ h) s3 ep eq e3 m3 e0))
 
   flat-halves : (c : Pos) (g : Face) (c′ p q r s : ℕ) → f c ≡ c′ → f (g .p0) ≡ p → f (g .p1) ≡ q → f (g .p2) ≡ r → f (g .p3) ≡ s
       → flat f (halves c g) ≡ halvesNumbers c′ p q r s
@@ -163,22 +161,22 @@ module _ (m : ℕ) (x : Pos) (a : Axis) where
     face-link s split h =
         let g = face-points s in
         let t = h refl in
-        flat-fan f fine number (faceCentre (face m x a s)) (centre m x) (face m x a s) true true true true _ _ (quadAt (fromKey m x a s))
+        flat-fan f number fine (faceCentre (face m x a s)) (centre m x) (face m x a s) allFine _ _ (quadAt (fromKey m x a s))
         (t .e0) (t .e1) (t .e2) (t .e3) (ap number (g .mid)) (ap number key-centre) (ap number (g .k0)) (ap number (g .k1)) (ap number (g .k2)) (ap number (g .k3))
         (ap number (g .n0)) (ap number (g .n1)) (ap number (g .n2)) (ap number (g .n3))
     face-link false equal h = refl
     face-link true equal h =
         let g = face-points true in
-        flat-fan f fine number (centre m x) (centre m (beside a true x)) (face m x a true) _ _ _ _ _ _ (quadAt (fromKey m x a true))
+        flat-fan f number fine (centre m x) (centre m (beside a true x)) (face m x a true) _ _ _ (quadAt (fromKey m x a true))
         refl refl refl refl (ap number key-centre) (ap number key-opposite) (ap number (g .k0)) (ap number (g .k1)) (ap number (g .k2)) (ap number (g .k3))
         (ap number (g .n0)) (ap number (g .n1)) (ap number (g .n2)) (ap number (g .n3))
     face-link s (coarser n z) h =
         let g = face-points s in
-        flat-turned f (centre m x) (turnsTo (faceCentre (face n z a (not s))) (face m x a s)) (face m x a s) _ _ _ _ _ (ap number key-centre)
+        flat-turned f number (centre m x) (turnsTo (faceCentre (face n z a (not s))) (face m x a s)) (face m x a s) _ _ _ _ _ (ap number key-centre)
         (ap number (g .k0)) (ap number (g .k1)) (ap number (g .k2)) (ap number (g .k3))
     face-link s border h =
         let g = face-points s in
-        flat-halves f (centre m x) (face m x a s) _ _ _ _ _ (ap number key-centre) (ap number (g .k0)) (ap number (g .k1)) (ap number (g .k2)) (ap number (g .k3))
+        flat-halves f number (centre m x) (face m x a s) _ _ _ _ _ (ap number key-centre) (ap number (g .k0)) (ap number (g .k1)) (ap number (g .k2)) (ap number (g .k3))
 
 -- a rotation is by a corner
 turns-at-most : (p : Pos) (f : Face) → turnsTo p f ≤ 3
@@ -210,7 +208,7 @@ module _ (d : Pos) (l : ℕ) (s : List ℕ) (c : Closed l d (read d l s)) (m : �
   module _ (number : ℕ → ℕ) where
     axis-link : (a : Axis) → flat (λ p. number (keyOf p)) (axisCells l d (read d l s) m x a)
         ≡ axisKeyed number (besideAt l d (read d l s) m x a false) (besideAt l d (read d l s) m x a true) (lowKey m x a) (half m a) (half m (next a)) (half m (next (next a)))
-    unfolding axisKeyed axisNumbers octantAt
+    unfolding axisKeyed axisNumbers cornersAt
     axis-link a =
         flat-append (λ p. number (keyOf p)) (faceCells l d (read d l s) m x a false) (faceCells l d (read d l s) m x a true)
         ∙ ap₂ (λ (p q : List ℕ). p ++ q)
@@ -219,7 +217,7 @@ module _ (d : Pos) (l : ℕ) (s : List ℕ) (c : Closed l d (read d l s)) (m : �
 
     -- the numbers stored for a leaf are those of its cells
     pub leaf-link : flat (λ p. number (keyOf p)) (leafCells l d (read d l s) m x)
-        ≡ leafNumbers number (sidesAt l d (read d l s) m x) (lowKey m x ax) (half m ax) (half m ay) (half m az)
+        ≡ leafNumbers number (sidesAt l d (read d l s) m x) (lowKey m x ax) (2 ^ m)
     unfolding leafCells leafNumbers sidesAt
     leaf-link =
         let ey : lowKey m x ay ≡ lowKey m x ax = omega arith in

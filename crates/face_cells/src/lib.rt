@@ -1,7 +1,10 @@
 // Stores the cells of a leaf at its faces, each as four vertex numbers.
 use lists::store4;
 use sides::Beside;
+use sides::Edges;
 use sides::Sides;
+use vertex_keys::STRIDE_X;
+use vertex_keys::STRIDE_Y;
 use vertex_keys::find;
 use vertex_keys::near;
 ghost use mathlib.Core.Path.{_≡_};
@@ -9,12 +12,13 @@ ghost use mathlib.Core.Bool.{true};
 ghost use Prim.Native.Nat.{_+_, _*_, _^_, _≤_, _<_};
 ghost use lib.ListN.{length};
 ghost use Rattle.lists.specs.Runs.{Stored, Room};
+ghost use Rattle.vertex_keys.specs.Keys.{mostKeys};
 ghost use Rattle.vertex_keys.specs.Parts.{Lookup};
-ghost use Rattle.face_cells.specs.Numbers.{numberIn, overNumbers, fanNumbers, halvesNumbers, turnedNumbers, faceNumbers, lowFace, highFace, axisNumbers, octantAt, fromNext, leafNumbers, Turns, AllTurn};
+ghost use Rattle.face_cells.specs.Parts.{rankIn, overNumbers, fanNumbers, halvesNumbers, turnedNumbers, faceNumbers, lowFace, highFace, axisNumbers, cornersAt, fromNext, leafNumbers, Turns, AllTurn};
 
-// A leaf's octant from an axis on, the two others after it: the numbers of its centre and its corners, the key of corner 0, and half
-// its width along each axis. A corner's place has 1 for the high end of the first axis, 2 of the second, 4 of the third.
-struct Octant {
+// A leaf from an axis on, the two others after it: the numbers of its centre and its corners, the key of corner 0, and half its width
+// along each axis. A corner's place has 1 for the high end of the first axis, 2 of the second, 4 of the third.
+struct Corners {
     centre: u32,
     c0: u32,
     c1: u32,
@@ -30,7 +34,7 @@ struct Octant {
     w: u64,
 }
 
-// A face across the first axis: the numbers of its corners, one after the other around it, the key of p0, and half the octant's width
+// A face across the first axis: the numbers of its corners, one after the other around it, the key of p0, and half the leaf's width
 // along each axis.
 struct Quad {
     p0: u32,
@@ -43,30 +47,28 @@ struct Quad {
     w: u64,
 }
 
-// The cells over an edge a, b between p and q: two where a finer vertex stands at its midpoint, whose key is m.
-fn over(
-    work: &[u64],
-    vertices: usize,
-    out: &mut [u32],
-    at: usize,
-    fine: bool,
+// An edge a, b of a face, with the key m of its midpoint, between p and q.
+struct Edge {
     p: u32,
     q: u32,
     a: u32,
-    m: u64,
     b: u32,
-) -> usize
+    m: u64,
+}
+
+// The cells over an edge: two where a finer vertex stands at its midpoint.
+fn over(work: &[u64], vertices: usize, out: &mut [u32], at: usize, fine: bool, e: Edge) -> usize
     requires { ⌜ Lookup (now work) vertices ⌝ }
-    requires { ⌜ Room (now out) at (overNumbers fine p q a (numberIn (now work) vertices m) b) ⌝ }
-    ensures { λ r. ⌜ Stored (now (out .entry)) at (overNumbers fine p q a (numberIn (now (work .entry)) vertices m) b) r (now (out .exit)) ⌝ }
+    requires { ⌜ Room (now out) at (overNumbers (rankIn (now work) vertices) fine e) ⌝ }
+    ensures { λ r. ⌜ Stored (now (out .entry)) at (overNumbers (rankIn (now (work .entry)) vertices) fine e) r (now (out .exit)) ⌝ }
 {
     if fine {
-        let n = find(work, vertices, m);
-        store4(out, at, p, q, a, n);
-        store4(out, at + 4, p, q, n, b);
+        let n = find(work, vertices, e.m);
+        store4(out, at, e.p, e.q, e.a, n);
+        store4(out, at + 4, e.p, e.q, n, e.b);
         at + 8
     } else {
-        store4(out, at, p, q, a, b);
+        store4(out, at, e.p, e.q, e.a, e.b);
         at + 4
     }
 }
@@ -80,23 +82,48 @@ fn fan(
     p: u32,
     q: u32,
     f: Quad,
-    e0: bool,
-    e1: bool,
-    e2: bool,
-    e3: bool,
+    fine: Edges,
 ) -> usize
     requires { ⌜ Lookup (now work) vertices ⌝ }
     requires { ⌜ f .k + 2 * f .v + 2 * f .w < 2 ^ 64 ⌝ }
-    requires { ⌜ Room (now out) at (fanNumbers (numberIn (now work) vertices) p q f e0 e1 e2 e3) ⌝ }
-    ensures { λ r. ⌜ Stored (now (out .entry)) at (fanNumbers (numberIn (now (work .entry)) vertices) p q f e0 e1 e2 e3) r (now (out .exit)) ⌝ }
+    requires { ⌜ Room (now out) at (fanNumbers (rankIn (now work) vertices) p q f fine) ⌝ }
+    ensures { λ r. ⌜ Stored (now (out .entry)) at (fanNumbers (rankIn (now (work .entry)) vertices) p q f fine) r (now (out .exit)) ⌝ }
 {
     let k = f.k;
     let v = f.v;
     let w = f.w;
-    let n = over(work, vertices, out, at, e0, p, q, f.p0, k + v, f.p1);
-    let m = over(work, vertices, out, n, e1, p, q, f.p1, k + 2 * v + w, f.p2);
-    let l = over(work, vertices, out, m, e2, p, q, f.p2, k + 2 * w + v, f.p3);
-    over(work, vertices, out, l, e3, p, q, f.p3, k + w, f.p0)
+    let a = Edge {
+        p,
+        q,
+        a: f.p0,
+        b: f.p1,
+        m: k + v,
+    };
+    let b = Edge {
+        p,
+        q,
+        a: f.p1,
+        b: f.p2,
+        m: k + 2 * v + w,
+    };
+    let c = Edge {
+        p,
+        q,
+        a: f.p2,
+        b: f.p3,
+        m: k + 2 * w + v,
+    };
+    let d = Edge {
+        p,
+        q,
+        a: f.p3,
+        b: f.p0,
+        m: k + w,
+    };
+    let n = over(work, vertices, out, at, fine.e0, a);
+    let m = over(work, vertices, out, n, fine.e1, b);
+    let l = over(work, vertices, out, m, fine.e2, c);
+    over(work, vertices, out, l, fine.e3, d)
 }
 
 // Two half-pyramids.
@@ -140,17 +167,23 @@ fn face_cells(
     requires { ⌜ Lookup (now work) vertices ⌝ }
     requires { ⌜ f .k + f .u + 2 * f .v + 2 * f .w < 2 ^ 64 ⌝ }
     requires { ⌜ Turns side ⌝ }
-    requires { ⌜ Room (now out) at (faceNumbers (numberIn (now work) vertices) side c f) ⌝ }
-    ensures { λ r. ⌜ Stored (now (out .entry)) at (faceNumbers (numberIn (now (work .entry)) vertices) side c f) r (now (out .exit)) ⌝ }
+    requires { ⌜ Room (now out) at (faceNumbers (rankIn (now work) vertices) side c f) ⌝ }
+    ensures { λ r. ⌜ Stored (now (out .entry)) at (faceNumbers (rankIn (now (work .entry)) vertices) side c f) r (now (out .exit)) ⌝ }
 {
     match side {
         Beside::Split => {
             let m = find(work, vertices, f.k + f.v + f.w);
-            fan(work, vertices, out, at, m, c, f, true, true, true, true)
+            let all = Edges {
+                e0: true,
+                e1: true,
+                e2: true,
+                e3: true,
+            };
+            fan(work, vertices, out, at, m, c, f, all)
         }
-        Beside::Equal(e0, e1, e2, e3) => {
+        Beside::Equal(fine) => {
             let o = near(work, vertices, c as usize + 1, f.k + f.u + f.v + f.w);
-            fan(work, vertices, out, at, c, o, f, e0, e1, e2, e3)
+            fan(work, vertices, out, at, c, o, f, fine)
         }
         Beside::Given => at,
         Beside::Coarser(n) => turned(out, at, n, c, f.p0, f.p1, f.p2, f.p3),
@@ -158,7 +191,7 @@ fn face_cells(
     }
 }
 
-fn low_face(o: Octant) -> Quad
+fn low_face(o: Corners) -> Quad
     ensures { λ r. ⌜ r ≡ lowFace o ⌝ }
 {
     Quad {
@@ -173,7 +206,7 @@ fn low_face(o: Octant) -> Quad
     }
 }
 
-fn high_face(o: Octant) -> Quad
+fn high_face(o: Corners) -> Quad
     requires { ⌜ o .k + 2 * o .u < 2 ^ 64 ⌝ }
     ensures { λ r. ⌜ r ≡ highFace o ⌝ }
 {
@@ -189,7 +222,7 @@ fn high_face(o: Octant) -> Quad
     }
 }
 
-// The cells at both faces across the first axis of an octant.
+// The cells at both faces across the first axis of a leaf.
 fn axis_cells(
     work: &[u64],
     vertices: usize,
@@ -197,23 +230,23 @@ fn axis_cells(
     at: usize,
     low: Beside,
     high: Beside,
-    o: Octant,
+    o: Corners,
 ) -> usize
     requires { ⌜ Lookup (now work) vertices ⌝ }
     requires { ⌜ o .k + 3 * o .u + 2 * o .v + 2 * o .w < 2 ^ 64 ⌝ }
     requires { ⌜ Turns low × Turns high ⌝ }
-    requires { ⌜ Room (now out) at (axisNumbers (numberIn (now work) vertices) low high o) ⌝ }
-    ensures { λ r. ⌜ Stored (now (out .entry)) at (axisNumbers (numberIn (now (work .entry)) vertices) low high o) r (now (out .exit)) ⌝ }
+    requires { ⌜ Room (now out) at (axisNumbers (rankIn (now work) vertices) low high o) ⌝ }
+    ensures { λ r. ⌜ Stored (now (out .entry)) at (axisNumbers (rankIn (now (work .entry)) vertices) low high o) r (now (out .exit)) ⌝ }
 {
     let n = face_cells(work, vertices, out, at, low, o.centre, low_face(o));
     face_cells(work, vertices, out, n, high, o.centre, high_face(o))
 }
 
-// Finds the octant whose low corner has the key k. A corner mostly stands next to the one below it along the third axis.
-fn octant_at(work: &[u64], vertices: usize, k: u64, u: u64, v: u64, w: u64) -> Octant
+// Finds the leaf whose low corner has the key k. A corner mostly stands next to the one below it along the third axis.
+fn corners_at(work: &[u64], vertices: usize, k: u64, u: u64, v: u64, w: u64) -> Corners
     requires { ⌜ Lookup (now work) vertices ⌝ }
     requires { ⌜ k + 2 * u + 2 * v + 2 * w < 2 ^ 64 ⌝ }
-    ensures { λ r. ⌜ r ≡ octantAt (numberIn (now (work .entry)) vertices) k u v w ⌝ }
+    ensures { λ r. ⌜ r ≡ cornersAt (rankIn (now (work .entry)) vertices) k u v w ⌝ }
 {
     let x = k + 2 * u;
     let y = 2 * v;
@@ -227,7 +260,7 @@ fn octant_at(work: &[u64], vertices: usize, k: u64, u: u64, v: u64, w: u64) -> O
     let c5 = near(work, vertices, c1 as usize + 1, x + z);
     let c6 = near(work, vertices, c2 as usize + 1, k + y + z);
     let c7 = near(work, vertices, c3 as usize + 1, x + y + z);
-    Octant {
+    Corners {
         centre,
         c0,
         c1,
@@ -244,11 +277,11 @@ fn octant_at(work: &[u64], vertices: usize, k: u64, u: u64, v: u64, w: u64) -> O
     }
 }
 
-// The same octant, from the next axis on.
-fn from_next(o: Octant) -> Octant
+// The same leaf, from the next axis on.
+fn from_next(o: Corners) -> Corners
     ensures { λ r. ⌜ r ≡ fromNext o ⌝ }
 {
-    Octant {
+    Corners {
         centre: o.centre,
         c0: o.c0,
         c1: o.c2,
@@ -265,7 +298,7 @@ fn from_next(o: Octant) -> Octant
     }
 }
 
-// The cells of a leaf with these sides: k is the key of its low corner, u, v and w half its width along x, y and z.
+// The cells of a leaf with these sides: k is the key of its low corner, h half its width.
 pub fn six_faces(
     work: &[u64],
     vertices: usize,
@@ -273,17 +306,15 @@ pub fn six_faces(
     at: usize,
     f: Sides,
     k: u64,
-    u: u64,
-    v: u64,
-    w: u64,
+    h: u64,
 ) -> usize
     requires { ⌜ Lookup (now work) vertices ⌝ }
-    requires { ⌜ k + 3 * u + 3 * v + 3 * w < 2 ^ 64 ⌝ }
+    requires { ⌜ (k < mostKeys) × (h ≤ 32) ⌝ }
     requires { ⌜ AllTurn f ⌝ }
-    requires { ⌜ Room (now out) at (leafNumbers (numberIn (now work) vertices) f k u v w) ⌝ }
-    ensures { λ r. ⌜ Stored (now (out .entry)) at (leafNumbers (numberIn (now (work .entry)) vertices) f k u v w) r (now (out .exit)) ⌝ }
+    requires { ⌜ Room (now out) at (leafNumbers (rankIn (now work) vertices) f k h) ⌝ }
+    ensures { λ r. ⌜ Stored (now (out .entry)) at (leafNumbers (rankIn (now (work .entry)) vertices) f k h) r (now (out .exit)) ⌝ }
 {
-    let x = octant_at(work, vertices, k, u, v, w);
+    let x = corners_at(work, vertices, k, h * STRIDE_X, h * STRIDE_Y, h);
     let y = from_next(x);
     let z = from_next(y);
     let x0 = f.x0;

@@ -15,7 +15,7 @@ use Rattle.octree_cells.specs.Cells.{Cell, flat}
 use Rattle.plan.specs.declared.Plan.{Plan}
 use Rattle.lattice.specs.Lattice.{latticeCells, latticeVertices, latticeTable}
 use Rattle.plan.specs.Vertices.{dimsOf, tripleAt, pointAt, spread}
-use Rattle.lattice.specs.Storing.{verticesOf}
+use Rattle.lattice.specs.Parts.{verticesOf}
 use Rattle.grid.specs.Grid.{gridCells, gridVertices, numberAt, cellTable, tripleTable, pointTable}
 use Rattle.grid.specs.Step.{cellCount, vertexCount, lacksCells, lacksVertices, filledOf, Filled}
 use Rattle.grid.specs.declared.Gridded.the-variants.{Done, NoCells, NoVertices}

@@ -17,7 +17,8 @@ use Rattle.lists.proofs.Running.{length-run, sum-same, sum-flat}
 use Rattle.space.specs.Space.{Axis, ax, ay, az, Pos, pos, Inside, frame, next}
 use Rattle.octree_cells.specs.Cells.{Cell}
 use Rattle.lattice.specs.Lattice.{evens, odds, size, boxUp, doubled, latticeVertices, LatticeVertex, slot, indexOf, inRange, opposite, corner0, corner1, corner2, complete, octahedron, axisCells, centreCells, latticeCells}
-use Rattle.lattice.proofs.Octahedra.{even-index, odd-index, frame-all}
+use Rattle.space.proofs.Space.{frame-all}
+use Rattle.lattice.proofs.Octahedra.{even-index, odd-index}
 use Rattle.lattice.proofs.Formulas.{one-each, vertices-count}
 
 -- ---- a box by its places

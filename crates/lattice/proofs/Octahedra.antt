@@ -9,8 +9,11 @@ use borrow.Author.Tests.{eq-eqb, ne-eqb, lt-ltb, le-ltb, le-leb, lt-leb}
 use lib.Dec.{leb, ltb}
 use Rattle.lists.proofs.Cases.{ltOr}
 use Rattle.space.specs.Space.{Axis, ax, ay, az, Pos, frame, next}
+use Rattle.space.proofs.Space.{frame-all, frame-eta}
+use Rattle.lattice.specs.declared.Octa.{Octa}
 use Rattle.octree_cells.specs.Cells.{flat}
-use Rattle.lattice.specs.Lattice.{evens, odds, size, doubled, slot, indexOf, inRange, opposite, corner0, corner1, corner2, corner3, complete, octahedron, axisCells, octaNumbers, step}
+use Rattle.lattice.specs.Parts.{octaNumbers, step}
+use Rattle.lattice.specs.Lattice.{evens, odds, size, doubled, slot, indexOf, inRange, opposite, corner0, corner1, corner2, corner3, complete, octahedron, axisCells}
 
 -- ---- the number of a vertex
 
@@ -26,36 +29,22 @@ odd-index d y p h =
     let half : (λ a. p a / 2) ≡ y = fun-ext (λ a. omega (arith, h a)) in
     rw (ne-eqb (p ax % 2) 0 (λ e. omega (arith, h ax))) (ap (λ (q : Pos). size (evens d) + slot (odds d) q) half)
 
--- what holds along the three axes of a frame holds along every axis
-pub frame-all : (R : ℕ → ℕ → Type 0) (a : Axis) (p q r u v w : ℕ) → R p u → R q v → R r w → (k : Axis) → R (frame a p q r k) (frame a u v w k)
-frame-all R ax p q r u v w x y z ax = x
-frame-all R ax p q r u v w x y z ay = y
-frame-all R ax p q r u v w x y z az = z
-frame-all R ay p q r u v w x y z ax = z
-frame-all R ay p q r u v w x y z ay = x
-frame-all R ay p q r u v w x y z az = y
-frame-all R az p q r u v w x y z ax = y
-frame-all R az p q r u v w x y z ay = z
-frame-all R az p q r u v w x y z az = x
-
--- a place is the frame of its coordinates
-frame-own : (a : Axis) (x : Pos) (k : Axis) → frame a (x a) (x (next a)) (x (next (next a))) k ≡ x k
-frame-own ax x ax = refl
-frame-own ax x ay = refl
-frame-own ax x az = refl
-frame-own ay x ax = refl
-frame-own ay x ay = refl
-frame-own ay x az = refl
-frame-own az x ax = refl
-frame-own az x ay = refl
-frame-own az x az = refl
-
 -- what steps along the axes add
 slot-frame : (n x : Pos) (a : Axis) (i j k : ℕ)
     → slot n (frame a (x a + i) (x (next a) + j) (x (next (next a)) + k)) ≡ slot n x + i * step n a + j * step n (next a) + k * step n (next (next a))
 slot-frame n x ax i j k = omega arith
 slot-frame n x ay i j k = omega arith
 slot-frame n x az i j k = omega arith
+
+-- an octahedron by the numbers of its vertices
+abbrev octaAt : Pos → Pos → Axis → Octa
+octaAt d x a = record {
+  centre = size (evens d) + slot (odds d) x;
+  opposite = size (evens d) + slot (odds d) x + step (odds d) a;
+  low = slot (evens d) x + step (evens d) a;
+  u = step (evens d) (next a);
+  v = step (evens d) (next (next a));
+}
 
 module _ (d x : Pos) (a : Axis) where
   abbrev u : Axis
@@ -84,7 +73,7 @@ module _ (d x : Pos) (a : Axis) where
 
   -- the sixteen numbers of an octahedron
   pub octahedron-numbers : flat (indexOf d) (octahedron a (doubled 1 x))
-      ≡ octaNumbers true (size (evens d) + slot (odds d) x) (size (evens d) + slot (odds d) x + step (odds d) a) (slot (evens d) x + step (evens d) a) (step (evens d) (next a)) (step (evens d) (next (next a)))
+      ≡ octaNumbers true (octaAt d x a)
   unfolding flat octahedron octaNumbers
   octahedron-numbers =
       let ec : indexOf d (doubled 1 x) ≡ middle = odd-index d x (doubled 1 x) (λ k. refl) in
@@ -139,7 +128,7 @@ there d x a = ltb (x a + 1) (odds d a) && (ltb (x (next a)) (d (next a) / 2) && 
 module _ (d x : Pos) (h : (k : Axis) → x k < odds d k) (a : Axis) where
   range : (p q r : ℕ) → p ≤ d a → q ≤ d (next a) → r ≤ d (next (next a)) → inRange d (frame a p q r) ≡ true
   range p q r e f g =
-      in-true d (frame a p q r) (λ k. omega (arith, frame-all _≤_ a p q r _ _ _ e f g k, frame-own a d k))
+      in-true d (frame a p q r) (λ k. omega (arith, frame-all _≤_ a p q r _ _ _ e f g k, ap (λ (y : Pos). y k) (frame-eta a d)))
 
   pub complete-is : complete d a (doubled 1 x) ≡ there d x a
   unfolding complete
@@ -173,11 +162,11 @@ module _ (d x : Pos) (h : (k : Axis) → x k < odds d k) (a : Axis) where
 
   -- the numbers at one axis
   pub axis-numbers : flat (indexOf d) (axisCells d (doubled 1 x) a)
-      ≡ octaNumbers (there d x a) (size (evens d) + slot (odds d) x) (size (evens d) + slot (odds d) x + step (odds d) a) (slot (evens d) x + step (evens d) a) (step (evens d) (next a)) (step (evens d) (next (next a)))
+      ≡ octaNumbers (there d x a) (octaAt d x a)
   unfolding axisCells
   axis-numbers = rw complete-is (go (there d x a))
     where
       go : (s : Bool) → flat (indexOf d) (cond s (octahedron a (doubled 1 x)) [])
-          ≡ octaNumbers s (size (evens d) + slot (odds d) x) (size (evens d) + slot (odds d) x + step (odds d) a) (slot (evens d) x + step (evens d) a) (step (evens d) (next a)) (step (evens d) (next (next a)))
+          ≡ octaNumbers s (octaAt d x a)
       go true = octahedron-numbers d x a
       go false = unfold flat in unfold octaNumbers in refl

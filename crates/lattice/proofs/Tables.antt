@@ -8,27 +8,23 @@ use native.Mathlib.Omega.{arith}
 use lib.Dec.{ltb}
 use Rattle.lists.specs.Runs.{run, Splits}
 use Rattle.lists.proofs.Running.{run-same, run-map}
-use Rattle.space.specs.Space.{Axis, ax, ay, az, Pos, pos}
-use Rattle.octree_cells.specs.Cells.{Cell, flat}
+use Rattle.space.specs.Space.{Axis, ax, ay, az, Pos, pos, Inside}
+use Rattle.space.proofs.Space.{on-all}
+use Rattle.octree_cells.specs.Cells.{flat}
+use Rattle.octree_cells.proofs.Flat.{flat-none, flat-append}
 use Rattle.plan.specs.declared.Plan.{Plan}
-use Rattle.lattice.specs.Lattice.{evens, odds, boxUp, doubled, indexOf, centreCells, latticeCells, latticeVertices, latticeTable, octaNumbers}
+use Rattle.lattice.specs.declared.Octa.{Octa}
+use Rattle.lattice.specs.declared.Row.{Row}
+use Rattle.lattice.specs.Lattice.{evens, odds, boxUp, doubled, indexOf, centreCells, latticeCells, latticeVertices, latticeTable}
 use Rattle.plan.specs.Vertices.{dimsOf, spread}
-use Rattle.lattice.specs.Storing.{numbersAt, rowNumbers, cellsAt, rowCells, allCells, boxOf, verticesOf}
+use Rattle.lattice.specs.Parts.{octaNumbers, numbersAt, rowNumbers, InRow, IsRow, cellsAt, rowCells, allCells, boxOf, verticesOf}
 use Rattle.lattice.proofs.Octahedra.{axis-numbers}
 
 -- ---- the cells
 
-flat-append : (f : Pos → ℕ) (a b : List Cell) → flat f (a ++ b) ≡ flat f a ++ flat f b
-unfolding flat
-flat-append f [] b = refl
-flat-append f (c ∷ a) b = ap (λ (t : List ℕ). f (c .c0) ∷ f (c .c1) ∷ f (c .c2) ∷ f (c .c3) ∷ t) (flat-append f a b)
-
-flat-none : (f : Pos → ℕ) → flat f [] ≡ []
-unfolding flat
-flat-none f = refl
-
-octa-same : {t t′ : Bool} {c c′ o o′ low low′ u u′ v v′ : ℕ} → t ≡ t′ → c ≡ c′ → o ≡ o′ → low ≡ low′ → u ≡ u′ → v ≡ v′
-    → octaNumbers t c o low u v ≡ octaNumbers t′ c′ o′ low′ u′ v′
+octa-same : {t t′ : Bool} {o o′ : Octa} → t ≡ t′ → o .centre ≡ o′ .centre → o .opposite ≡ o′ .opposite → o .low ≡ o′ .low → o .u ≡ o′ .u → o .v ≡ o′ .v
+    → octaNumbers t o ≡ octaNumbers t′ o′
+unfolding octaNumbers
 octa-same et ec eo el eu ev = rw (et, ec, eo, el, eu, ev) refl
 
 -- the tests in the order of the code
@@ -51,33 +47,30 @@ turn-z true false true = refl
 turn-z true false false = refl
 turn-z false t r = refl
 
-module _ (nx ny nz j k : ℕ) (hj : j < (ny + 1) / 2) (hk : k < (nz + 1) / 2) (tx ty tz : Bool) (centre low line layer deep : ℕ)
-    (ex : tx ≡ (ltb j (ny / 2) && ltb k (nz / 2))) (ey : ty ≡ (ltb (j + 1) ((ny + 1) / 2) && ltb k (nz / 2))) (ez : tz ≡ (ltb (k + 1) ((nz + 1) / 2) && ltb j (ny / 2)))
-    (ec : centre ≡ (nx / 2 + 1) * (ny / 2 + 1) * (nz / 2 + 1) + (j + k * ((ny + 1) / 2)) * ((nx + 1) / 2))
-    (el : low ≡ (j + k * (ny / 2 + 1)) * (nx / 2 + 1)) (en : line ≡ nx / 2 + 1) (ea : layer ≡ (ny / 2 + 1) * (nx / 2 + 1)) (ed : deep ≡ (ny + 1) / 2 * ((nx + 1) / 2)) where
+module _ (nx ny nz k j : ℕ) (h : InRow nx ny nz k j) (r : Row) (q : IsRow nx ny nz k j r) where
   abbrev d : Pos
   d = pos nx ny nz
 
-  centre-is : (i : ℕ) → i < (nx + 1) / 2 → cellsAt (pos nx ny nz) k j i ≡ numbersAt ((nx + 1) / 2) (nx / 2) tx ty tz centre low line layer deep i
+  centre-is : (i : ℕ) → i < (nx + 1) / 2 → cellsAt (pos nx ny nz) k j i ≡ numbersAt r i
   unfolding centreCells numbersAt
   centre-is i hi =
       simp flat-append
       (ap₂ (λ (a b : List ℕ). a ++ b)
       (ap₂ (λ (a b : List ℕ). a ++ b)
       (axis-numbers d (pos i j k) inside ax
-      ∙ octa-same (turn-x (ltb (i + 1) ((nx + 1) / 2)) (ltb j (ny / 2)) (ltb k (nz / 2)) ∙ ap (λ (t : Bool). t && ltb (i + 1) ((nx + 1) / 2)) (sym ex)) (omega arith) (omega arith) (omega arith) (omega arith) (omega arith))
+      ∙ octa-same (turn-x (ltb (i + 1) ((nx + 1) / 2)) (ltb j (ny / 2)) (ltb k (nz / 2)) ∙ ap₂ (λ (t : Bool) (n : ℕ). t && ltb (i + 1) n) (sym (q .tx-is)) (sym (q .n-is))) (omega (arith, q)) (omega (arith, q)) (omega (arith, q)) (omega (arith, q)) (omega (arith, q)))
       (axis-numbers d (pos i j k) inside ay
-      ∙ octa-same (turn-y (ltb (j + 1) ((ny + 1) / 2)) (ltb k (nz / 2)) (ltb i (nx / 2)) ∙ ap (λ (t : Bool). t && ltb i (nx / 2)) (sym ey)) (omega arith) (omega arith) (omega arith) (omega arith) refl))
+      ∙ octa-same (turn-y (ltb (j + 1) ((ny + 1) / 2)) (ltb k (nz / 2)) (ltb i (nx / 2)) ∙ ap₂ (λ (t : Bool) (n : ℕ). t && ltb i n) (sym (q .ty-is)) (sym (q .h-is))) (omega (arith, q)) (omega (arith, q)) (omega (arith, q)) (omega (arith, q)) refl))
       (axis-numbers d (pos i j k) inside az
-      ∙ octa-same (turn-z (ltb (k + 1) ((nz + 1) / 2)) (ltb i (nx / 2)) (ltb j (ny / 2)) ∙ ap (λ (t : Bool). t && ltb i (nx / 2)) (sym ez)) (omega arith) (omega arith) (omega arith) refl (omega arith)))
+      ∙ octa-same (turn-z (ltb (k + 1) ((nz + 1) / 2)) (ltb i (nx / 2)) (ltb j (ny / 2)) ∙ ap₂ (λ (t : Bool) (n : ℕ). t && ltb i n) (sym (q .tz-is)) (sym (q .h-is))) (omega (arith, q)) (omega (arith, q)) (omega (arith, q)) refl (omega (arith, q))))
     where
-      inside : (a : Axis) → pos i j k a < odds (pos nx ny nz) a
-      inside ax = hi
-      inside ay = hj
-      inside az = hk
+      inside : Inside (odds (pos nx ny nz)) (pos i j k)
+      inside = on-all _ hi (h .j-in) (h .layer .k-in)
 
-  pub row-is : rowCells (pos nx ny nz) k j ≡ rowNumbers ((nx + 1) / 2) (nx / 2) tx ty tz centre low line layer deep
-  row-is = run-same ((nx + 1) / 2) (cellsAt (pos nx ny nz) k j) _ 0 (λ i a b. centre-is i (omega arith))
+  pub row-is : rowCells (pos nx ny nz) k j ≡ rowNumbers r
+  row-is =
+      run-same ((nx + 1) / 2) (cellsAt (pos nx ny nz) k j) (numbersAt r) 0 (λ i a b. centre-is i (omega arith))
+      ∙ ap (λ (n : ℕ). run n (numbersAt r) 0) (sym (q .n-is))
 
 -- all cells, row by row
 pub all-cells : (d : Pos) → latticeTable d ≡ allCells d

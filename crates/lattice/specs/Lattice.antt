@@ -92,22 +92,3 @@ latticeCells d = boxUp (odds d) (λ x. centreCells d (doubled 1 x))
 -- the cells by the numbers of their vertices
 abbrev pub latticeTable : Pos → List ℕ
 latticeTable d = flat (indexOf d) (latticeCells d)
-
--- ---- in closed form
-
--- what one step along an axis adds to a place in a box
-abbrev pub step : Pos → Axis → ℕ
-step n ax = 1
-step n ay = n ax
-step n az = n ay * n ax
-
--- the numbers of an octahedron where it is there: its centre, the opposite one, and the corners from the low one on
-unfoldable pub octaNumbers : Bool → (c o low u v : ℕ) → List ℕ
-octaNumbers t c o low u v =
-    cond t
-    (c ∷ o ∷ (low + u + v) ∷ (low + v)
-    ∷ c ∷ o ∷ (low + v) ∷ low
-    ∷ c ∷ o ∷ low ∷ (low + u)
-    ∷ c ∷ o ∷ (low + u) ∷ (low + u + v)
-    ∷ [])
-    []

@@ -1,3 +1,3 @@
 -- The definitions that the contracts of lattice cite.
 pub mod Lattice
-pub mod Storing
+pub mod Parts

@@ -4,11 +4,11 @@ ghost use mathlib.Core.Bool.{_&&_};
 ghost use Prim.Native.Nat.{_+_, _*_, _<_, _≤_};
 ghost use Rattle.lists.specs.Runs.{Stored, Room};
 ghost use lib.Seq.{sets};
-ghost use Rattle.space.specs.Space.{ay, pos};
-ghost use Rattle.lattice.specs.Lattice.{odds, latticeTable, octaNumbers};
+ghost use Rattle.space.specs.Space.{pos};
+ghost use Rattle.lattice.specs.Lattice.{latticeTable};
 use plan::Plan;
 ghost use Rattle.plan.specs.Vertices.{tripleAt, pointAt};
-ghost use Rattle.lattice.specs.Storing.{Dims, Counted, OctaFits, rowNumbers, RowFits, InLayer, rowCells, layerCells, allCells, BothRoom, BothStored, rowTriples, rowPoints, rowOf, layerOf, boxOf, verticesOf};
+ghost use Rattle.lattice.specs.Parts.{Dims, Counted, octaNumbers, OctaFits, rowNumbers, RowFits, InRow, IsRow, InLayer, layerCells, allCells, BothRoom, BothStored, rowOf, layerOf, boxOf, verticesOf};
 
 pub struct Counts {
     pub cells: usize,
@@ -51,21 +51,20 @@ fn both(a: bool, b: bool) -> bool
     b
 }
 
-// The four cells of an octahedron, where its row and its place have one: its centre, the opposite one, and the corners from the low one
-// on, by what a step along the two axes of the face adds to a number.
-fn octahedron(
-    cells: &mut [u32],
-    at: usize,
-    row: bool,
-    here: bool,
+// An octahedron by numbers: its centre, the opposite one, its low corner, and what a step along the two axes of the face adds to a
+// corner's number.
+struct Octa {
     centre: u32,
     opposite: u32,
     low: u32,
     u: u32,
     v: u32,
-) -> usize
-    requires { ⌜ OctaFits (now cells) at (row && here) centre opposite low u v ⌝ }
-    ensures { λ r. ⌜ Stored (now (cells .entry)) at (octaNumbers (row && here) centre opposite low u v) r (now (cells .exit)) ⌝ }
+}
+
+// The four cells of an octahedron, where its row and its place have one.
+fn octahedron(cells: &mut [u32], at: usize, row: bool, here: bool, o: Octa) -> usize
+    requires { ⌜ OctaFits (now cells) at (row && here) o ⌝ }
+    ensures { λ r. ⌜ Stored (now (cells .entry)) at (octaNumbers (row && here) o) r (now (cells .exit)) ⌝ }
 {
     if !row {
         return at;
@@ -73,17 +72,22 @@ fn octahedron(
     if !here {
         return at;
     }
-    lists::store4(cells, at, centre, opposite, low + u + v, low + v);
-    lists::store4(cells, at + 4, centre, opposite, low + v, low);
-    lists::store4(cells, at + 8, centre, opposite, low, low + u);
-    lists::store4(cells, at + 12, centre, opposite, low + u, low + u + v);
+    let centre = o.centre;
+    let opposite = o.opposite;
+    let low = o.low;
+    let c1 = low + o.v;
+    let c3 = low + o.u;
+    let c0 = c3 + o.v;
+    lists::store4(cells, at, centre, opposite, c0, c1);
+    lists::store4(cells, at + 4, centre, opposite, c1, low);
+    lists::store4(cells, at + 8, centre, opposite, low, c3);
+    lists::store4(cells, at + 12, centre, opposite, c3, c0);
     at + 16
 }
 
-// The cells of a row of n centres; h is how many low corners have one further on along x.
-fn row(
-    cells: &mut [u32],
-    at: usize,
+// A row of n centres, with h low corners that have one further on along x; whether it has octahedra along x, y and z; the numbers of
+// its first centre and of its first low corner; what a step along y and along z adds to a corner's number, and one along z to a centre's.
+struct Row {
     n: u32,
     h: u32,
     tx: bool,
@@ -94,18 +98,52 @@ fn row(
     line: u32,
     layer: u32,
     deep: u32,
-) -> usize
-    requires { ⌜ RowFits (now cells) at (rowNumbers n h tx ty tz centre low line layer deep) n centre low line layer deep ⌝ }
-    ensures { λ r. ⌜ Stored (now (cells .entry)) at (rowNumbers n h tx ty tz centre low line layer deep) r (now (cells .exit)) ⌝ }
+}
+
+// The cells of a row.
+fn store_row(cells: &mut [u32], at: usize, r: Row) -> usize
+    requires { ⌜ RowFits (now cells) at r ⌝ }
+    ensures { λ n. ⌜ Stored (now (cells .entry)) at (rowNumbers r) n (now (cells .exit)) ⌝ }
 {
+    let n = r.n;
+    let h = r.h;
+    let tx = r.tx;
+    let ty = r.ty;
+    let tz = r.tz;
+    let centre = r.centre;
+    let low = r.low;
+    let line = r.line;
+    let layer = r.layer;
+    let deep = r.deep;
     let mut here = at;
     let mut i: u32 = 0;
     while i < n {
         let c = centre + i;
         let b = low + i;
-        here = octahedron(cells, here, tx, i + 1 < n, c, c + 1, b + 1, line, layer);
-        here = octahedron(cells, here, ty, i < h, c, c + n, b + line, layer, 1);
-        here = octahedron(cells, here, tz, i < h, c, c + deep, b + layer, 1, line);
+        let x = Octa {
+            centre: c,
+            opposite: c + 1,
+            low: b + 1,
+            u: line,
+            v: layer,
+        };
+        let y = Octa {
+            centre: c,
+            opposite: c + n,
+            low: b + line,
+            u: layer,
+            v: 1,
+        };
+        let z = Octa {
+            centre: c,
+            opposite: c + deep,
+            low: b + layer,
+            u: 1,
+            v: line,
+        };
+        here = octahedron(cells, here, tx, i + 1 < n, x);
+        here = octahedron(cells, here, ty, i < h, y);
+        here = octahedron(cells, here, tz, i < h, z);
         i += 1;
     }
     here
@@ -119,10 +157,10 @@ fn slot(j: u32, k: u32, n: u32, m: u32) -> u32
     (j + k * n) * m
 }
 
-// The cells of row j of layer k.
-fn row_at(cells: &mut [u32], at: usize, nx: u32, ny: u32, nz: u32, j: u32, k: u32) -> usize
-    requires { ⌜ InLayer nx ny nz k × (j < odds (pos nx ny nz) ay) × Room (now cells) at (rowCells (pos nx ny nz) k j) ⌝ }
-    ensures { λ r. ⌜ Stored (now (cells .entry)) at (rowCells (pos nx ny nz) k j) r (now (cells .exit)) ⌝ }
+// Row j of layer k.
+fn row_of(nx: u32, ny: u32, nz: u32, j: u32, k: u32) -> Row
+    requires { ⌜ InRow nx ny nz k j ⌝ }
+    ensures { λ r. ⌜ IsRow nx ny nz k j r ⌝ }
 {
     let hx = nx / 2;
     let hy = ny / 2;
@@ -131,27 +169,22 @@ fn row_at(cells: &mut [u32], at: usize, nx: u32, ny: u32, nz: u32, j: u32, k: u3
     let oy = (ny + 1) / 2;
     let oz = (nz + 1) / 2;
     let line = hx + 1;
-    let layer = slot(hy + 1, 0, 0, line);
-    let low = slot(j, k, hy + 1, line);
-    let centre = slot(0, hz + 1, hy + 1, line) + slot(j, k, oy, ox);
     let tx = both(j < hy, k < hz);
     let ty = both(j + 1 < oy, k < hz);
     let tz = both(k + 1 < oz, j < hy);
-    let deep = slot(oy, 0, 0, ox);
-    row(
-        cells,
-        at,
-        ox,
-        hx,
+    let first = slot(0, hz + 1, hy + 1, line);
+    Row {
+        n: ox,
+        h: hx,
         tx,
         ty,
         tz,
-        centre,
-        low,
+        centre: first + slot(j, k, oy, ox),
+        low: slot(j, k, hy + 1, line),
         line,
-        layer,
-        deep,
-    )
+        layer: slot(hy + 1, 0, 0, line),
+        deep: slot(oy, 0, 0, ox),
+    }
 }
 
 // The cells of layer k.
@@ -163,7 +196,7 @@ fn layer_at(cells: &mut [u32], at: usize, nx: u32, ny: u32, nz: u32, k: u32) -> 
     let mut here = at;
     let mut j: u32 = 0;
     while j < n {
-        here = row_at(cells, here, nx, ny, nz, j, k);
+        here = store_row(cells, here, row_of(nx, ny, nz, j, k));
         j += 1;
     }
     here
@@ -183,39 +216,8 @@ pub fn store_cells(cells: &mut [u32], nx: u32, ny: u32, nz: u32)
     }
 }
 
-// The vertices of a row of n along x: e is 0 for the even ones and 1 for the odd ones. y and z are the same in all of it, and so are
-// their places.
+// The vertices of row j of layer k, n along x: e is 0 for the even ones and 1 for the odd ones.
 fn vertex_row(
-    triples: &mut [u32],
-    points: &mut [u32],
-    at: usize,
-    n: u32,
-    e: u32,
-    y: u32,
-    z: u32,
-    py: u32,
-    pz: u32,
-    origin: f32,
-    half: f32,
-) -> usize
-    requires { ⌜ (n ≤ 65) × (e ≤ 1) × BothRoom (now triples) (now points) at (rowTriples e y z n) (rowPoints origin half e py pz n) ⌝ }
-    ensures { λ r. ⌜ BothStored (now (triples .entry)) (now (points .entry)) at (rowTriples e y z n) (rowPoints origin half e py pz n) r (now (triples .exit)) (now (points .exit)) ⌝ }
-{
-    let mut here = at;
-    let mut i: u32 = 0;
-    while i < n {
-        let x = 2 * i + e;
-        let px = plan::place(origin, half, x);
-        lists::store3(triples, here, x, y, z);
-        lists::store3(points, here, px, py, pz);
-        here += 3;
-        i += 1;
-    }
-    here
-}
-
-// The vertices of row j of layer k.
-fn vertex_row_at(
     triples: &mut [u32],
     points: &mut [u32],
     at: usize,
@@ -232,7 +234,17 @@ fn vertex_row_at(
     let z = 2 * k + e;
     let py = plan::place(p.oy, p.half, y);
     let pz = plan::place(p.oz, p.half, z);
-    vertex_row(triples, points, at, n, e, y, z, py, pz, p.ox, p.half)
+    let mut here = at;
+    let mut i: u32 = 0;
+    while i < n {
+        let x = 2 * i + e;
+        let px = plan::place(p.ox, p.half, x);
+        lists::store3(triples, here, x, y, z);
+        lists::store3(points, here, px, py, pz);
+        here += 3;
+        i += 1;
+    }
+    here
 }
 
 // The vertices of layer k, of m rows.
@@ -252,7 +264,7 @@ fn vertex_layer(
     let mut here = at;
     let mut j: u32 = 0;
     while j < m {
-        here = vertex_row_at(triples, points, here, p, n, e, j, k);
+        here = vertex_row(triples, points, here, p, n, e, j, k);
         j += 1;
     }
     here

@@ -28,7 +28,7 @@ use Rattle.vertex_keys.specs.Keys.{keyOf}
 use Rattle.sides.specs.Told.{Taken}
 use Rattle.sides.proofs.Levels.{in-small}
 use Rattle.leaves.specs.Leaves.{packed, alone, leafList}
-use Rattle.face_cells.proofs.Link.{flat-append}
+use Rattle.octree_cells.proofs.Flat.{flat-append}
 use Rattle.leaf_cells.specs.Listed.{levelIn, placeIn, keysOf, keysFrom, leafKeys, Standing}
 use Rattle.leaf_cells.proofs.Listing.{level-back, place-back, each, each-leaves, each-run, map-each, leaves-same}
 

@@ -13,9 +13,9 @@ use Rattle.lists.proofs.Running.{loop-start, loop-next, loop-room, loop-done, s
 use Rattle.lists.proofs.Parts.{sets-whole}
 use Rattle.sides.specs.declared.Sides.{Sides}
 use Rattle.sides.specs.Told.{Taken, sidesAt}
-use Rattle.face_cells.specs.Numbers.{numberIn, leafNumbers, AllTurn}
+use Rattle.face_cells.specs.Parts.{rankIn, leafNumbers, AllTurn}
 use Rattle.face_cells.proofs.Link.{leaf-link, all-turn}
-use Rattle.leaf_cells.specs.Listed.{levelIn, placeIn, numberOf, Standing}
+use Rattle.leaf_cells.specs.Listed.{levelIn, placeIn, numberIn, Standing}
 use Rattle.leaf_cells.proofs.Leafwise.{listed, cells-by}
 use Rattle.leaf_cells.proofs.Keys.{low-is, halves-are}
 
@@ -36,14 +36,14 @@ module _ (s : List ℕ) (nx ny nz l : ℕ) (h : Taken s nx ny nz l) where
     sides-turn = subst AllTurn (sym g) (all-turn d l s (h .graded) (levelIn z) (placeIn z) leaf)
 
     pub leaf-numbers : (w : List ℕ) (v : ℕ)
-        → flat (numberOf w v) (leafCells l d (read d l s) (levelIn z) (placeIn z))
-        ≡ leafNumbers (numberIn w v) f (z % 549755813888 * (2 * n)) (n * 67108864) (n * 8192) n
+        → flat (numberIn w v) (leafCells l d (read d l s) (levelIn z) (placeIn z))
+        ≡ leafNumbers (rankIn w v) f (z % 549755813888 * (2 * n)) (n * 67108864) (n * 8192) n
     leaf-numbers w v =
-        leaf-link d l s (h .graded) (levelIn z) (placeIn z) leaf (numberIn w v)
+        leaf-link d l s (h .graded) (levelIn z) (placeIn z) leaf (rankIn w v)
         ∙ sym (same g (low-is z n e) (halves-are z n e .onX) (halves-are z n e .onY) (halves-are z n e .onZ))
       where
         same : {f f′ : Sides} {k k′ a a′ b b′ c c′ : ℕ} → f ≡ f′ → k ≡ k′ → a ≡ a′ → b ≡ b′ → c ≡ c′
-            → leafNumbers (numberIn w v) f k a b c ≡ leafNumbers (numberIn w v) f′ k′ a′ b′ c′
+            → leafNumbers (rankIn w v) f k a b c ≡ leafNumbers (rankIn w v) f′ k′ a′ b′ c′
         same p q r t u = cc
 
 -- ---- the loop
@@ -51,7 +51,7 @@ module _ (s : List ℕ) (nx ny nz l : ℕ) (h : Taken s nx ny nz l) where
 module _ (s : List ℕ) (nx ny nz l : ℕ) (w : List ℕ) (v list leaves : ℕ) where
   abbrev turn : ℕ → List ℕ
   turn j =
-      flat (numberOf w v)
+      flat (numberIn w v)
       (leafCells l (pos nx ny nz) (read (pos nx ny nz) l s) (levelIn (getD w (list + j) 0)) (placeIn (getD w (list + j) 0)))
 
   pub record Emitting (o₀ o : List ℕ) (n at : ℕ) : Type 0 where
@@ -70,14 +70,14 @@ module _ (s : List ℕ) (nx ny nz l : ℕ) (w : List ℕ) (v list leaves : ℕ) 
 
     module _ (h : Taken s nx ny nz l) (k : Standing s nx ny nz l w list leaves)
         (g : length o₀ ≡ 4 * length (cells l (pos nx ny nz) (read (pos nx ny nz) l s))) where
-      whole : flat (numberOf w v) (cells l (pos nx ny nz) (read (pos nx ny nz) l s)) ≡ run leaves turn 0
-      whole = cells-by s nx ny nz l h w list leaves k (numberOf w v)
+      whole : flat (numberIn w v) (cells l (pos nx ny nz) (read (pos nx ny nz) l s)) ≡ run leaves turn 0
+      whole = cells-by s nx ny nz l h w list leaves k (numberIn w v)
 
       lengths : length (run leaves turn 0) ≡ length o₀
-      lengths = sym (ap length whole) ∙ flat-length (numberOf w v) (cells l (pos nx ny nz) (read (pos nx ny nz) l s)) ∙ sym g
+      lengths = sym (ap length whole) ∙ flat-length (numberIn w v) (cells l (pos nx ny nz) (read (pos nx ny nz) l s)) ∙ sym g
 
       pub emitting-room : n < leaves → Room o at (turn n)
       emitting-room q = loop-room leaves turn o₀ 0 (e .stored) q (record { fits = omega (arith, lengths) })
 
-      pub emitting-done : leaves ≤ n → o ≡ flat (numberOf w v) (cells l (pos nx ny nz) (read (pos nx ny nz) l s))
+      pub emitting-done : leaves ≤ n → o ≡ flat (numberIn w v) (cells l (pos nx ny nz) (read (pos nx ny nz) l s))
       emitting-done q = loop-done leaves turn o₀ 0 (e .stored) q .kept ∙ sets-whole (run leaves turn 0) o₀ lengths ∙ sym whole

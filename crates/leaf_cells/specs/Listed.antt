@@ -50,8 +50,8 @@ abbrev pub leafKeys : ℕ → Pos → Tree → List ℕ
 leafKeys l d t = keysOf (overLeaves l d t leafPoints)
 
 -- a vertex' number among the first v keys
-abbrev pub numberOf : List ℕ → ℕ → Pos → ℕ
-numberOf w v p = rank (keyOf p) (take v w)
+abbrev pub numberIn : List ℕ → ℕ → Pos → ℕ
+numberIn w v p = rank (keyOf p) (take v w)
 
 -- the list of leaves stands in the work from `list` on
 pub record Standing (s : List ℕ) (nx ny nz l : ℕ) (w : List ℕ) (list leaves : ℕ) : Type 0 where

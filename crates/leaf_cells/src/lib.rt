@@ -13,7 +13,7 @@ ghost use Rattle.octree_cells.specs.Leaf.{IsLeaf};
 ghost use Rattle.lists.specs.Runs.{Stored, Room};
 ghost use Rattle.vertex_keys.specs.Parts.{Lookup};
 ghost use Rattle.sides.specs.Told.{Taken};
-ghost use Rattle.leaf_cells.specs.Listed.{levelIn, placeIn, Placed, AllPlaced, nineKeys, keysIn, keysFrom, numberOf, Standing};
+ghost use Rattle.leaf_cells.specs.Listed.{levelIn, placeIn, Placed, AllPlaced, nineKeys, keysIn, keysFrom, numberIn, Standing};
 
 // The keys of a leaf's centre and corners, from the high corner down: k is the key of the low one, u, v and w half the leaf's
 // width along x, y and z.
@@ -79,8 +79,8 @@ fn leaf_cells(
     requires { ⌜ Taken (now split) nx ny nz levels ⌝ }
     requires { ⌜ Lookup (now work) vertices ⌝ }
     requires { ⌜ IsLeaf levels (pos nx ny nz) (read (pos nx ny nz) levels (now split)) (levelIn leaf) (placeIn leaf) ⌝ }
-    requires { ⌜ Room (now out) at (flat (numberOf (now work) vertices) (leafCells levels (pos nx ny nz) (read (pos nx ny nz) levels (now split)) (levelIn leaf) (placeIn leaf))) ⌝ }
-    ensures { λ r. ⌜ Stored (now (out .entry)) at (flat (numberOf (now (work .entry)) vertices) (leafCells levels (pos nx ny nz) (read (pos nx ny nz) levels (now (split .entry))) (levelIn leaf) (placeIn leaf))) r (now (out .exit)) ⌝ }
+    requires { ⌜ Room (now out) at (flat (numberIn (now work) vertices) (leafCells levels (pos nx ny nz) (read (pos nx ny nz) levels (now split)) (levelIn leaf) (placeIn leaf))) ⌝ }
+    ensures { λ r. ⌜ Stored (now (out .entry)) at (flat (numberIn (now (work .entry)) vertices) (leafCells levels (pos nx ny nz) (read (pos nx ny nz) levels (now (split .entry))) (levelIn leaf) (placeIn leaf))) r (now (out .exit)) ⌝ }
 {
     let m = (leaf / 549755813888) as usize;
     let i = (leaf / 67108864 % 8192) as usize;
@@ -109,7 +109,7 @@ pub fn store_cells(
     requires { ⌜ Lookup (now work) vertices ⌝ }
     requires { ⌜ Standing (now split) nx ny nz levels (now work) list leaves ⌝ }
     requires { ⌜ length (now out) ≡ 4 * length (cells levels (pos nx ny nz) (read (pos nx ny nz) levels (now split))) ⌝ }
-    ensures { λ _. ⌜ now (out .exit) ≡ flat (numberOf (now (work .entry)) vertices) (cells levels (pos nx ny nz) (read (pos nx ny nz) levels (now (split .entry)))) ⌝ }
+    ensures { λ _. ⌜ now (out .exit) ≡ flat (numberIn (now (work .entry)) vertices) (cells levels (pos nx ny nz) (read (pos nx ny nz) levels (now (split .entry)))) ⌝ }
 {
     let mut n: usize = 0;
     let mut at: usize = 0;

@@ -86,7 +86,7 @@ pub equal-high : (s : List ℕ) (k : Level) (a : Axis) (u v w : ℕ) (high : Boo
     → w′ ≡ stepped false w → v′ ≡ stepped false v
     → e0 ≡ eitherIn s k a u (u + 1) v w′ → e1 ≡ eitherIn s k a u (u + 1) (v + 1) w
     → e2 ≡ eitherIn s k a u (u + 1) v (w + 1) → e3 ≡ eitherIn s k a u (u + 1) v′ w
-    → Equal e0 e1 e2 e3 ≡ equalIn s k a u v w high
+    → Equal (record { e0 = e0; e1 = e1; e2 = e2; e3 = e3 }) ≡ equalIn s k a u v w high
 unfolding equalIn
 equal-high s k a u v w high e0 e1 e2 e3 v′ w′ h f g p0 p1 p2 p3 = rw (h, p0, p1, p2, p3, f, g)
 

@@ -21,6 +21,7 @@ use Rattle.sides.specs.declared.Level.{Level}
 use Rattle.sides.specs.declared.Sides.{Sides}
 use Rattle.sides.specs.declared.Beside.{Beside}
 use Rattle.sides.specs.declared.Beside.the-variants.{Equal}
+use Rattle.sides.specs.declared.Edges.{Edges}
 use Rattle.sides.specs.Reading.{Held, levelOf, facing, sidesIn, givenAt, givenBy}
 use Rattle.sides.specs.Told.{Taken, sidesAt}
 use Rattle.sides.proofs.Ties.{level-held, sides-read, leaf-count}
@@ -143,6 +144,6 @@ pub sides-in : (s : List ℕ) (here above : Level) (root : Bool) (n x : Pos) (x0
 unfolding sidesIn
 sides-in s here above root n x x0 x1 y0 y1 z0 z1 a b c d e f = rw (a, b, c, d, e, f) refl
 
-pub given-equal : (side : Beside) (e0 e1 e2 e3 : Bool) (a b c d : ℕ) → side ≡ Equal e0 e1 e2 e3 → a ≡ bit e0 → b ≡ bit e1 → c ≡ bit e2 → d ≡ bit e3
+pub given-equal : (side : Beside) (e : Edges) (a b c d : ℕ) → side ≡ Equal e → a ≡ bit (e .e0) → b ≡ bit (e .e1) → c ≡ bit (e .e2) → d ≡ bit (e .e3)
     → 4 + a + b + c + d ≡ givenAt side
-given-equal side e0 e1 e2 e3 a b c d h p q r u = rw (h, p, q, r, u) refl
+given-equal side e a b c d h p q r u = rw (h, p, q, r, u) refl

@@ -27,6 +27,7 @@ use Rattle.octree_cells.proofs.LocalSide.{localSide, side-local, turn-local, un
 use Rattle.octree_cells.proofs.Counting.{cells-length}
 use Rattle.octree_cells.proofs.Vertices.{side-is-split}
 use Rattle.sides.specs.declared.Beside.{Beside}
+use Rattle.sides.specs.declared.Edges.{Edges}
 use Rattle.sides.specs.declared.Beside.the-variants.{Split, Equal, Coarser, Border}
 use Rattle.sides.specs.Reading.{Held, splitIn, eitherIn, equalIn, besideIn, pickSide, facing, sidesIn, levelOf, givenAt, givenBy}
 use Rattle.sides.specs.Told.{told, besideAt, sidesAt, Taken}
@@ -225,8 +226,8 @@ pub record AllFine (fine : Pos → Bool) (f : Face) : Type 0 where
   pub e2 : fine (middle (f .p2) (f .p3)) ≡ true
   pub e3 : fine (middle (f .p3) (f .p0)) ≡ true
 
-four : {p0 p1 p2 p3 q0 q1 q2 q3 : Bool} → p0 ≡ q0 → p1 ≡ q1 → p2 ≡ q2 → p3 ≡ q3 → Equal p0 p1 p2 p3 ≡ Equal q0 q1 q2 q3
-four h0 h1 h2 h3 = cc
+four : {p q : Edges} → p .e0 ≡ q .e0 → p .e1 ≡ q .e1 → p .e2 ≡ q .e2 → p .e3 ≡ q .e3 → Equal p ≡ Equal q
+four h0 h1 h2 h3 = ap Equal (rw (h0, h1, h2, h3) refl)
 
 module _ (d : Pos) (l : ℕ) (s : List ℕ) (c : Closed l d (read d l s)) where
   equal-read : (m : ℕ) (x : Pos) (a : Axis) (high : Bool) → IsLeaf l d (read d l s) m x → read d l s m (beside a high x) ≡ false

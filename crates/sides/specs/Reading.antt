@@ -43,8 +43,13 @@ pickSide false a b = b
 unfoldable pub equalIn : List ℕ → Level → Axis → (u v w : ℕ) → Bool → Beside
 equalIn s k a u v w high =
     pickSide high
-    (Equal (eitherIn s k a u (u + 1) v (stepped false w)) (eitherIn s k a u (u + 1) (v + 1) w) (eitherIn s k a u (u + 1) v (w + 1))
-    (eitherIn s k a u (u + 1) (stepped false v) w))
+    (Equal
+    (record {
+      e0 = eitherIn s k a u (u + 1) v (stepped false w);
+      e1 = eitherIn s k a u (u + 1) (v + 1) w;
+      e2 = eitherIn s k a u (u + 1) v (w + 1);
+      e3 = eitherIn s k a u (u + 1) (stepped false v) w;
+    }))
     Given
 
 -- a leaf with n octants of its level along the axis
@@ -78,7 +83,7 @@ levelOf d l (suc m) = record { start = off d (l - suc m); nx = counts l d (suc m
 -- how many cells a face gives: a split neighbour puts a finer vertex on each of the four edges
 abbrev pub givenAt : Beside → ℕ
 givenAt Split = 8
-givenAt (Equal e0 e1 e2 e3) = 4 + bit e0 + bit e1 + bit e2 + bit e3
+givenAt (Equal e) = 4 + bit (e .e0) + bit (e .e1) + bit (e .e2) + bit (e .e3)
 givenAt Given = 0
 givenAt (Coarser n) = 2
 givenAt Border = 2

@@ -16,7 +16,14 @@ use Rattle.sides.specs.declared.Sides.{Sides}
 
 -- whether each edge of a face has a finer vertex at its midpoint
 abbrev pub edged : (Pos → Bool) → Face → Beside
-edged fine f = Equal (fine (middle (f .p0) (f .p1))) (fine (middle (f .p1) (f .p2))) (fine (middle (f .p2) (f .p3))) (fine (middle (f .p3) (f .p0)))
+edged fine f =
+    Equal
+    (record {
+      e0 = fine (middle (f .p0) (f .p1));
+      e1 = fine (middle (f .p1) (f .p2));
+      e2 = fine (middle (f .p2) (f .p3));
+      e3 = fine (middle (f .p3) (f .p0));
+    })
 
 abbrev pub told : (Pos → Bool) → ℕ → Pos → Axis → Bool → Side → Beside
 told fine m x a s split = Split

@@ -23,11 +23,19 @@ pub struct Level {
     pub nz: usize,
 }
 
+// Whether each edge of a face has a finer vertex at its midpoint.
+pub struct Edges {
+    pub e0: bool,
+    pub e1: bool,
+    pub e2: bool,
+    pub e3: bool,
+}
+
 // What stands beside a leaf at one of its faces.
 pub enum Beside {
     Split,
-    // a leaf of equal level on the positive side, with whether each edge of the face has a finer vertex at its midpoint
-    Equal(bool, bool, bool, bool),
+    // a leaf of equal level on the positive side
+    Equal(Edges),
     // one on the negative side, which gives the cells between the two
     Given,
     // with the corner of the face that is the centre of the coarse one
@@ -132,7 +140,7 @@ fn equal_of(
     let e1 = either_in(split, here, axis, u, u + 1, v + 1, w);
     let e2 = either_in(split, here, axis, u, u + 1, v, w + 1);
     let e3 = either_in(split, here, axis, u, u + 1, step_to(v, false), w);
-    Beside::Equal(e0, e1, e2, e3)
+    Beside::Equal(Edges { e0, e1, e2, e3 })
 }
 
 // What stands beside the leaf at u, v, w, along an axis with n octants of its level and the two after it.
@@ -272,7 +280,7 @@ fn given_at(side: Beside) -> usize
 {
     match side {
         Beside::Split => 8,
-        Beside::Equal(e0, e1, e2, e3) => 4 + one(e0) + one(e1) + one(e2) + one(e3),
+        Beside::Equal(e) => 4 + one(e.e0) + one(e.e1) + one(e.e2) + one(e.e3),
         Beside::Given => 0,
         Beside::Coarser(_) => 2,
         Beside::Border => 2,

@@ -5,7 +5,7 @@ use Prim.Native.Nat.{ℕ, _≤_, _<_}
 use native.Mathlib.Omega.{arith}
 use Rattle.space.specs.Space.{Axis, ax, ay, az, Pos}
 use Rattle.lists.proofs.Cases.{ltOr, eqOr}
-use Rattle.vertex_keys.specs.Keys.{keys, keyOf, tripleOf, Packs, Before}
+use Rattle.vertex_keys.specs.Keys.{mostKeys, keyOf, tripleOf, Packs, Before}
 
 -- the key of a key's triple is the key
 pub key-triple : (k : ℕ) → keyOf (tripleOf k) ≡ k
@@ -23,7 +23,7 @@ module _ (p : Pos) (h : Packs p) where
       at ay = omega (arith, h ax, h ay, h az)
       at az = omega (arith, h ax, h ay, h az)
 
-  pub key-small : keyOf p < keys
+  pub key-small : keyOf p < mostKeys
   unfolding keyOf
   key-small = omega (arith, h ax, h ay, h az)
 

@@ -15,8 +15,8 @@ stride ay = field
 stride az = 1
 
 -- keys are below this
-abbrev pub keys : ℕ
-keys = 549755813888
+abbrev pub mostKeys : ℕ
+mostKeys = 549755813888
 
 unfoldable pub keyOf : Pos → ℕ
 keyOf p = p ax * stride ax + p ay * stride ay + p az

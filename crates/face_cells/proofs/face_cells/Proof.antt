@@ -1,6 +1,6 @@
+use native.Mathlib.Omega.{arith}
 use Rattle.lists.proofs.Running.{stored-as, stored-none}
 use Rattle.face_cells.proofs.Laws.{room-to, face-split, face-equal, face-given, face-coarser, face-border, turned-room, turns-few}
-use native.Mathlib.Omega.{arith}
 use borrow.Author.Needs.{needs}
 use Rattle.face_cells.proofs.face_cells.Statement.{statement}
 use Rattle.face_cells.proofs.face_cells.Tie as tie

@@ -7,7 +7,7 @@ use lib.Seq.{length-take-le}
 use Rattle.lists.proofs.Running.{room-as}
 use Rattle.lattice.specs.Lattice.{latticeTable}
 use Rattle.plan.specs.Vertices.{dimsOf, tripleAt, pointAt}
-use Rattle.lattice.specs.Storing.{verticesOf}
+use Rattle.lattice.specs.Parts.{verticesOf}
 use Rattle.lattice.proofs.Tables.{all-cells}
 use Rattle.grid.proofs.Outcomes.{cells-room, vertices-room, no-cells, no-vertices, done, lattice-cells, lattice-triples, lattice-points, lattice-cell-count, lattice-vertex-count, lent-room, lent-full, length-cells, length-triples, length-points}
 use borrow.Author.Needs.{needs}

@@ -5,7 +5,7 @@ use lib.Seq.{sets}
 use Rattle.lists.specs.Runs.{run, Storing}
 use Rattle.lists.proofs.Running.{loop-start, loop-next, loop-room, loop-done, storing-length}
 use Rattle.space.specs.Space.{pos}
-use Rattle.lattice.specs.Storing.{layerCells, allCells}
+use Rattle.lattice.specs.Parts.{layerCells, allCells}
 use Rattle.lattice.proofs.Tables.{all-cells}
 use Rattle.lattice.proofs.store_cells.Statement.{statement}
 use Rattle.lattice.proofs.store_cells.Tie as tie

@@ -3,7 +3,7 @@ use native.Mathlib.Omega.{arith}
 use Rattle.lists.specs.Runs.{run, Storing}
 use Rattle.lists.proofs.Running.{loop-start, loop-next, loop-room, loop-done, storing-length}
 use Rattle.plan.specs.Vertices.{tripleAt, pointAt}
-use Rattle.lattice.specs.Storing.{layerOf}
+use Rattle.lattice.specs.Parts.{layerOf}
 use Rattle.lattice.proofs.vertex_box.Statement.{statement}
 use Rattle.lattice.proofs.vertex_box.Tie as tie
 

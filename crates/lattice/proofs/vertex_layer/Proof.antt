@@ -3,7 +3,7 @@ use native.Mathlib.Omega.{arith}
 use Rattle.lists.specs.Runs.{run, Storing}
 use Rattle.lists.proofs.Running.{loop-start, loop-next, loop-room, loop-done, storing-length}
 use Rattle.plan.specs.Vertices.{tripleAt, pointAt}
-use Rattle.lattice.specs.Storing.{rowOf}
+use Rattle.lattice.specs.Parts.{rowOf}
 use Rattle.lattice.proofs.vertex_layer.Statement.{statement}
 use Rattle.lattice.proofs.vertex_layer.Tie as tie
 
@@ -16,8 +16,8 @@ abbrev μ-loop : tie.MeasureT-loop
 loop-holds : tie.Need-loop-holds Inv-loop μ-loop
 loop-holds c = (omega arith, loop-start _ _ _ _, loop-start _ _ _ _)
 
-vertex-row-at-requires : tie.Need-vertex-row-at-requires Inv-loop μ-loop
-vertex-row-at-requires c κs =
+vertex-row-requires : tie.Need-vertex-row-requires Inv-loop μ-loop
+vertex-row-requires c κs =
     let s = c .before .before .before .before .before .before in
     let l = c .before .before .before .loop in
     let h = c .before .before .loop-test .taken in
@@ -33,7 +33,7 @@ loop-again : tie.Need-loop-again Inv-loop μ-loop
 loop-again c =
     let l = c .before .before .before .before .before .before .before .before .loop in
     let h = c .before .before .before .before .before .before .before .loop-test .taken in
-    (omega arith, loop-next _ _ _ _ (l .inv .1) h (c .before .before .before .before .vertex-row-at .ensures .triples), loop-next _ _ _ _ (l .inv .2) h (c .before .before .before .before .vertex-row-at .ensures .points))
+    (omega arith, loop-next _ _ _ _ (l .inv .1) h (c .before .before .before .before .vertex-row .ensures .triples), loop-next _ _ _ _ (l .inv .2) h (c .before .before .before .before .vertex-row .ensures .points))
 
 same-length : tie.Need-same-length Inv-loop μ-loop
 same-length c = storing-length (c .before .loop .inv .1)
@@ -51,7 +51,7 @@ vertex-layer-spec =
     Inv-loop
     μ-loop
     loop-holds
-    vertex-row-at-requires
+    vertex-row-requires
     add-j
     loop-less
     loop-again

@@ -1,6 +1,6 @@
-use borrow.Author.Needs.{needs}
 use native.Mathlib.Omega.{arith}
 use Rattle.sides.proofs.Levels.{given-equal}
+use borrow.Author.Needs.{needs}
 use Rattle.sides.proofs.given_at.Statement.{statement}
 use Rattle.sides.proofs.given_at.Tie as tie
 
@@ -14,25 +14,25 @@ one-requires : tie.Need-one-requires
 one-requires c κs = search needs
 
 add-result : tie.Need-add-result
-add-result c = omega (arith, c .one .ensures)
+add-result c = search needs
 
 one-requires-2 : tie.Need-one-requires-2
 one-requires-2 c κs = search needs
 
 add-result-2 : tie.Need-add-result-2
-add-result-2 c = omega (arith, c .before .one .ensures, c .one2 .ensures)
+add-result-2 c = search needs
 
 one-requires-3 : tie.Need-one-requires-3
 one-requires-3 c κs = search needs
 
 add-result-3 : tie.Need-add-result-3
-add-result-3 c = omega (arith, c .before .before .one .ensures, c .before .one2 .ensures, c .one3 .ensures)
+add-result-3 c = search needs
 
 one-requires-4 : tie.Need-one-requires-4
 one-requires-4 c κs = search needs
 
 add-result-4 : tie.Need-add-result-4
-add-result-4 c = omega (arith, c .before .before .before .one .ensures, c .before .before .one2 .ensures, c .before .one3 .ensures, c .one4 .ensures)
+add-result-4 c = search needs
 
 enum-told-2 : tie.Need-enum-told-2
 enum-told-2 c = search needs
@@ -47,7 +47,10 @@ returns : tie.Need-returns
 returns c = search needs
 
 returns-2 : tie.Need-returns-2
-returns-2 c = (given-equal _ _ _ _ _ _ _ _ _ (c .before .before .before .before .before .side .given .1) (c .before .before .before .one .ensures .0) (c .before .before .one2 .ensures .0) (c .before .one3 .ensures .0) (c .one4 .ensures .0), omega (arith, c .before .before .before .one .ensures, c .before .before .one2 .ensures, c .before .one3 .ensures, c .one4 .ensures))
+returns-2 c = (
+  given-equal _ _ _ _ _ _ (c .before .before .before .before .before .side .given .1) (c .before .before .before .one .ensures .0) (c .before .before .one2 .ensures .0) (c .before .one3 .ensures .0) (c .one4 .ensures .0),
+  omega (arith, c .before .before .before .one .ensures, c .before .before .one2 .ensures, c .before .one3 .ensures, c .one4 .ensures),
+)
 
 returns-3 : tie.Need-returns-3
 returns-3 c = search needs

@@ -1,8 +1,8 @@
 use mathlib.Core.Path.{refl}
-use Rattle.face_cells.specs.Numbers.{octantAt}
+use Rattle.face_cells.specs.Parts.{cornersAt}
 use borrow.Author.Needs.{needs}
-use Rattle.face_cells.proofs.octant_at.Statement.{statement}
-use Rattle.face_cells.proofs.octant_at.Tie as tie
+use Rattle.face_cells.proofs.corners_at.Statement.{statement}
+use Rattle.face_cells.proofs.corners_at.Tie as tie
 
 mul-x : tie.Need-mul-x
 mul-x c = search needs
@@ -101,11 +101,11 @@ near-requires-4 : tie.Need-near-requires-4
 near-requires-4 c κs = search needs
 
 returns : tie.Need-returns
-unfolding octantAt
+unfolding cornersAt
 returns c = rw (c .before .before .before .before .before .before .before .before .find .ensures, c .before .before .before .before .before .before .before .find2 .ensures, c .before .before .before .before .before .before .find3 .ensures, c .before .before .before .before .before .find4 .ensures, c .before .before .before .before .find5 .ensures, c .before .before .before .near .ensures, c .before .before .near2 .ensures, c .before .near3 .ensures, c .near4 .ensures) refl
 
-pub octant-at-spec : {M : Type 1} → statement M
-octant-at-spec =
+pub corners-at-spec : {M : Type 1} → statement M
+corners-at-spec =
     tie.close
     (tie.spec
     mul-x
