@@ -12,7 +12,7 @@ use Rattle.octree_cells.proofs.Flat.{flat-append}
 use Rattle.octree_cells.proofs.Points.{Here, drawn-centre, drawn-opposite, drawn-face, drawn-middle, small, by-axis, DrawnFace}
 use Rattle.octree_cells.specs.Leaf.{IsLeaf}
 use Rattle.vertex_keys.specs.Keys.{keyOf, stride}
-use Rattle.sides.specs.Told.{told, besideAt, sidesAt}
+use Rattle.sides.specs.Parts.{told, besideAt, sidesAt}
 use Rattle.sides.proofs.Ties.{AllFine, split-fine}
 use Rattle.face_cells.specs.declared.Quad.{Quad}
 use Rattle.face_cells.specs.declared.Edge.{Edge}

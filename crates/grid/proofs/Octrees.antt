@@ -8,12 +8,12 @@ use lib.ListN.{length, getD, take, drop, length-append, length-drop, take-append
 use lib.Seq.{sets, sets-eq, length-take-le, take-at, drop-at, drop-drop, take-append-le, length-sets}
 use borrow.Rule.Slice.PartMut.{putMid, postOf, same-len-mid, mid-len}
 use Rattle.sorting.specs.Numbers.{SortedTo, distinctSorted, rank, StrictTo}
-use Rattle.space.specs.Space.{Axis, Pos, pos}
+use Rattle.space.specs.Space.{Axis, ax, ay, Pos}
 use Rattle.space.specs.Levels.{off, size, depth}
 use Rattle.octants.specs.Table.{read}
 use Rattle.octree_cells.specs.Cells.{Cell, cells, flat}
 use Rattle.plan.specs.declared.Plan.{Plan}
-use Rattle.vertex_keys.specs.Keys.{keyOf, tripleOf}
+use Rattle.vertex_keys.specs.Keys.{stride, mostKeys, keyOf, tripleOf}
 use Rattle.vertex_keys.specs.Parts.{numbered, Indexes}
 use Rattle.sorting.proofs.Members.{same-distinct, members, distinct-short}
 use Rattle.vertex_keys.proofs.Front.{numbered-front, numbered-rises}
@@ -22,11 +22,10 @@ use Rattle.plan.specs.Vertices.{spread}
 use Rattle.plan.specs.Vertices.{dimsOf, tripleAt, pointAt}
 use Rattle.grid.specs.Grid.{gridCells, gridVertices, vertexKeys, numberAt, cellTable, tripleTable, pointTable}
 use Rattle.grid.specs.Step.{cellCount, vertexCount}
-use Rattle.grid.specs.Octree.{keyTable}
+use Rattle.grid.specs.Parts.{keyTable}
 use Rattle.grid.proofs.Vertices.{spread-keys}
 use mathlib.Core.Path.{subst₂}
 use mathlib.Core.Bool.{true}
-use Prim.Native.Nat.{_%_}
 use borrow.Author.Tests.{lt-ltb}
 use lib.Dec.{ltb}
 use lib.ListN.{replicate, length-replicate}
@@ -37,12 +36,14 @@ use Rattle.lists.proofs.Bools.{and-left, and-right}
 use Rattle.lists.proofs.Lent.{below-at}
 use Rattle.sorting.proofs.Counting.{cnt-at, cnt-find}
 use Rattle.lists.proofs.Running.{length-run, sum-same, sum-flat}
-use Rattle.leaves.specs.Leaves.{leafList, alone}
+use Rattle.leaves.specs.Parts.{levelIn, leavesIn, alone}
+use Rattle.octree.specs.Parts.{rootsOf, treeOf}
+use Rattle.octree.specs.declared.Roots.{Roots}
 use Rattle.leaves.proofs.Lines.{leaves-bound}
-use Rattle.leaf_cells.specs.Listed.{levelIn, Placed, nineKeys, keysIn, keysFrom, Standing}
+use Rattle.leaf_cells.specs.Parts.{lowIn, Placed, nineKeys, keysIn, keysFrom, Standing}
 use Rattle.leaf_cells.proofs.Leafwise.{keys-by, same-vertices}
-use Rattle.leaf_cells.proofs.Keys.{small, keys-are, keys-nine, all-placed}
-use Rattle.grid.specs.Octree.{Numberable, Ready}
+use Rattle.leaf_cells.proofs.Keys.{half-few, low-few, keys-are, keys-nine, all-placed}
+use Rattle.grid.specs.Parts.{Numberable, Ready}
 
 -- ---- few leaves
 
@@ -157,7 +158,7 @@ module _ (p : Plan) (s : List ℕ) (h : 1 ≤ p .levels) where
 -- ---- every key is small
 
 abbrev most : ℕ
-most = 549755813888
+most = mostKeys
 
 below-both : (n : ℕ) (a b : List ℕ) → allBelow n a ≡ true → allBelow n b ≡ true → allBelow n (a ++ b) ≡ true
 unfolding allBelow
@@ -189,10 +190,9 @@ nine-below k u v w h g =
 
 leaf-below : (z : ℕ) → Placed z → allBelow most (keysIn z) ≡ true
 leaf-below z p =
-    let h : ℕ = 1 * 2 ^ levelIn z in
-    let s = small z h refl p in
-    ap (allBelow most) (keys-are z h refl)
-    ∙ nine-below (z % 549755813888 * (2 * h)) (h * 67108864) (h * 8192) h (omega (arith, s .wide, s .low)) (omega (arith, s .wide, s .low))
+    ap (allBelow most) (keys-are z (lowIn z) (2 ^ levelIn z) refl refl)
+    ∙ nine-below (lowIn z) (2 ^ levelIn z * stride ax) (2 ^ levelIn z * stride ay) (2 ^ levelIn z)
+    (omega (arith, half-few z p, low-few z p)) (omega (arith, half-few z p, low-few z p))
 
 -- of the distinct ones of small keys each is small
 distinct-below : (l : List ℕ) → allBelow most l ≡ true → (i : ℕ) → i < length (distinctSorted l) → getD (distinctSorted l) i 0 < most
@@ -203,18 +203,18 @@ distinct-below l h i b =
 
 -- ---- the work once the vertices are numbered
 
-module _ (s : List ℕ) (nx ny nz l n : ℕ) (w : List ℕ) (h : Numberable s nx ny nz l n w) where
+module _ (s : List ℕ) (d : Roots) (n : ℕ) (w : List ℕ) (h : Numberable s d n w) where
   abbrev L : List ℕ
-  L = leafList l (pos nx ny nz) (read (pos nx ny nz) l s)
+  L = leavesIn s d
 
   abbrev listed-work : List ℕ → List ℕ
   listed-work z = putMid (9 * n + 1) (9 * n + 1 + n - (9 * n + 1)) w z
 
-  pub list-length : {z : List ℕ} → z ≡ leafList l (pos nx ny nz) (read (pos nx ny nz) l s) → length z ≡ n
+  pub list-length : {z : List ℕ} → z ≡ leavesIn s d → length z ≡ n
   list-length e = ap length e ∙ sym (h .leaves)
 
-  module _ (z : List ℕ) (ez : z ≡ leafList l (pos nx ny nz) (read (pos nx ny nz) l s)) where
-    pub standing : Standing s nx ny nz l (putMid (9 * n + 1) (9 * n + 1 + n - (9 * n + 1)) w z) (9 * n + 1) n
+  module _ (z : List ℕ) (ez : z ≡ leavesIn s d) where
+    pub standing : Standing s d (putMid (9 * n + 1) (9 * n + 1 + n - (9 * n + 1)) w z) (9 * n + 1) n
     standing = record {
       fits = omega (arith, listed-length w z (replicate (9 * n) 0) n (h .room) (list-length ez) (length-replicate (9 * n) zero), h .room);
       many = h .leaves;
@@ -227,19 +227,19 @@ module _ (s : List ℕ) (nx ny nz l n : ℕ) (w : List ℕ) (h : Numberable s nx
     keys-long : length (keysFrom (putMid (9 * n + 1) (9 * n + 1 + n - (9 * n + 1)) w z) (9 * n + 1) n) ≡ 9 * n
     keys-long = length-run n _ 0 ∙ sum-same n _ _ 0 (λ j a b. keys-nine (getD (listed-work z) (9 * n + 1 + j) 0)) ∙ sum-flat n 9 0 ∙ omega arith
 
-    keys-same : distinctSorted (keysFrom (putMid (9 * n + 1) (9 * n + 1 + n - (9 * n + 1)) w z) (9 * n + 1) n) ≡ vertexKeys l (pos nx ny nz) s
+    keys-same : distinctSorted (keysFrom (putMid (9 * n + 1) (9 * n + 1 + n - (9 * n + 1)) w z) (9 * n + 1) n) ≡ vertexKeys (d .levels) (rootsOf d) s
     unfolding vertexKeys
     keys-same =
-        ap distinctSorted (sym (keys-by s nx ny nz l (h .taken) (listed-work z) (9 * n + 1) n standing))
-        ∙ same-distinct _ _ (same-vertices s nx ny nz l (h .taken))
+        ap distinctSorted (sym (keys-by s d (h .taken) (listed-work z) (9 * n + 1) n standing))
+        ∙ same-distinct _ _ (same-vertices s d (h .taken))
 
     keys-below : allBelow most K ≡ true
-    keys-below = below-run most (λ j. keysIn (getD (listed-work z) (9 * n + 1 + j) 0)) n 0 (λ j a b. leaf-below (getD (listed-work z) (9 * n + 1 + j) 0) (all-placed s nx ny nz l (h .taken) (listed-work z) (9 * n + 1) n standing j (omega arith)))
+    keys-below = below-run most (λ j. keysIn (getD (listed-work z) (9 * n + 1 + j) 0)) n 0 (λ j a b. leaf-below (getD (listed-work z) (9 * n + 1 + j) 0) (all-placed s d (h .taken) (listed-work z) (9 * n + 1) n standing j (omega arith)))
 
     leaves-few : n ≤ 8388608
     leaves-few =
-        let a = leaves-bound (read (pos nx ny nz) l s) alone 1 (λ m x. omega arith) l (pos nx ny nz) in
-        omega (arith, a, h .leaves, places-few (pos nx ny nz) l (h .taken .some), h .taken .whole, h .octants)
+        let a = leaves-bound (treeOf d s) alone 1 (λ m x. omega arith) (d .levels) (rootsOf d) in
+        omega (arith, a, h .leaves, places-few (rootsOf d) (d .levels) (h .taken .some), h .taken .covers .octants, h .octants)
 
     -- what the sort of the keys leaves
     module _ (M : List ℕ) (v : ℕ) (w₂ : List ℕ) (e₂ : w₂ ≡ sets (putMid (9 * n + 1) (9 * n + 1 + n - (9 * n + 1)) w z) 0 (keysFrom (putMid (9 * n + 1) (9 * n + 1 + n - (9 * n + 1)) w z) (9 * n + 1) n))
@@ -305,7 +305,7 @@ module _ (s : List ℕ) (nx ny nz l n : ℕ) (w : List ℕ) (h : Numberable s nx
         firsts =
             take-append-le v Q (drop (9 * n + 1) w₃) (omega (arith, v-fits, lq, front-long)) ∙ ix .same ∙ front-same ∙ fronts
 
-        pub ready : Ready s nx ny nz l n (Q ++ drop (9 * n + 1) (M ++ drop (9 * n) w₂)) v
+        pub ready : Ready s d n (Q ++ drop (9 * n + 1) (M ++ drop (9 * n) w₂)) v
         ready = record {
           lookup = find-ready (take (9 * n + 1) w₃) Q (drop (9 * n + 1) w₃) v rises v-few ix;
           keys = firsts ∙ keys-same;

@@ -1,6 +1,6 @@
 -- The outcomes of a grid that is not refused, one law for each way out. Assumes nothing.
 use mathlib.Core.Path.{_≡_, refl, sym, ap, _∙_}
-use mathlib.Core.Bool.{Bool, true, false, _||_, true≢false}
+use mathlib.Core.Bool.{true, false}
 use mathlib.Core.List.{List, [], _∷_, _++_}
 use Prim.Native.Nat.{ℕ, _+_, _*_, _/_, _≤_}
 use native.Mathlib.Omega.{arith}
@@ -8,10 +8,12 @@ use borrow.Author.Tests.{ltb-false}
 use lib.Dec.{ltb}
 use lib.ListN.{length, take, drop, replicate}
 use lib.Seq.{length-take-le, sets}
+use Rattle.lists.proofs.Bools.{neither}
+use Rattle.octree_cells.proofs.Flat.{flat-length}
 use Rattle.lists.proofs.Parts.{sets-whole}
 use Rattle.lists.specs.Runs.{Room}
 use Rattle.space.specs.Space.{Axis, Pos}
-use Rattle.octree_cells.specs.Cells.{Cell, flat}
+use Rattle.octree_cells.specs.Cells.{flat}
 use Rattle.plan.specs.declared.Plan.{Plan}
 use Rattle.lattice.specs.Lattice.{latticeCells, latticeVertices, latticeTable}
 use Rattle.plan.specs.Vertices.{dimsOf, tripleAt, pointAt, spread}
@@ -22,11 +24,6 @@ use Rattle.grid.specs.declared.Gridded.the-variants.{Done, NoCells, NoVe
 
 -- ---- lengths
 
-pub length-flat : (f : Pos → ℕ) (l : List Cell) → length (flat f l) ≡ 4 * length l
-unfolding flat
-length-flat f [] = refl
-length-flat f (c ∷ l) = omega (arith, length-flat f l)
-
 pub length-spread : (g : Axis → ℕ → ℕ) (l : List Pos) → length (spread g l) ≡ 3 * length l
 unfolding spread
 length-spread g [] = refl
@@ -35,7 +32,7 @@ length-spread g (p ∷ l) = omega (arith, length-spread g l)
 module _ (p : Plan) (s : List ℕ) where
   pub length-cells : length (cellTable p s) ≡ 4 * cellCount p s
   unfolding cellTable
-  length-cells = length-flat (numberAt (p .levels) (dimsOf p) s) (gridCells (p .levels) (dimsOf p) s)
+  length-cells = flat-length (numberAt (p .levels) (dimsOf p) s) (gridCells (p .levels) (dimsOf p) s)
 
   pub length-triples : length (tripleTable p s) ≡ 3 * vertexCount p s
   unfolding tripleTable
@@ -44,12 +41,6 @@ module _ (p : Plan) (s : List ℕ) where
   pub length-points : length (pointTable p s) ≡ 3 * vertexCount p s
   unfolding pointTable
   length-points = length-spread (pointAt p) (gridVertices (p .levels) (dimsOf p) s)
-
--- ---- room
-
-pub neither : (s t : Bool) → s || t ≡ false → (s ≡ false) × (t ≡ false)
-neither false t e = (refl, e)
-neither true t e = absurd (true≢false e)
 
 pub cells-room : (n cells work : ℕ) → lacksCells n cells work ≡ false → (4 * n ≤ cells) × (4 * n ≤ work)
 unfolding lacksCells

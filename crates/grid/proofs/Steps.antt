@@ -13,10 +13,10 @@ use lib.Seq.{length-take-le}
 use Rattle.refusals.specs.Rows.{first, proper}
 use Rattle.refusals.proofs.Rows.{clear, unless-none, unless-some}
 use Rattle.space.specs.Space.{ax, ay, az}
-use Rattle.space.specs.Levels.{off}
+use Rattle.space.specs.Levels.{mostOctants, off}
 use Rattle.octants.specs.Judge.{isGraded}
 use Rattle.octants.proofs.Judge.{graded-closes}
-use Rattle.sides.specs.Told.{Taken}
+use Rattle.sides.specs.Parts.{Taken}
 use Rattle.plan.specs.Step.{planOf}
 use Rattle.plan.specs.Parts.{Planful as PlanReady}
 use Rattle.plan.proofs.Ready.{ready, ready-levels}
@@ -25,8 +25,8 @@ use Rattle.plan.specs.declared.Plan.{Plan}
 use Rattle.plan.specs.declared.Planned.the-variants as planned
 use Rattle.plan.specs.Vertices.{dimsOf}
 use Rattle.grid.specs.Grid.{cellTable, tripleTable, pointTable}
-use Rattle.grid.specs.Step.{cellCount, vertexCount, lacksCells, lacksVertices, splitRows, filledOf, gridOf, Filled, GridDone, Planful}
-use Rattle.grid.specs.Octree.{Stocked}
+use Rattle.grid.specs.Step.{cellCount, vertexCount, lacksCells, lacksVertices, splitRows, filledOf, gridOf, Filled, GridDone}
+use Rattle.grid.specs.Parts.{Planful, rootsIn, Stocked}
 use Rattle.grid.specs.declared.Gridded.{Gridded}
 use Rattle.grid.specs.declared.Gridded.the-variants.{Done, Refused, NoVertices}
 use Rattle.grid.proofs.Outcomes.{cells-room, length-cells, length-triples, length-points}
@@ -148,18 +148,16 @@ module _ (b : Bounds) (c : Float) (levels : ℕ) (p : Plan) (e : planOf b c leve
         none [] q = refl
         none (y ∷ x) q = absurd (omega arith)
 
-    pub short-table : length s ≤ 1048576
+    pub short-table : length s ≤ mostOctants
     short-table = omega (arith, whole, planful .octants-few)
 
-    pub taken : levels ≢ 0 → Taken s (p .nx) (p .ny) (p .nz) (p .levels)
+    pub taken : levels ≢ 0 → Taken s (rootsIn p)
     taken g =
         let k = known in
         let o : 1 ≤ levels = omega arith in
         record {
-          dims = k .roots (omega (arith, levels-are));
+          covers = record { roots = k .roots (omega (arith, levels-are)); levels = planful .levels-few; octants = whole ∙ planful .octants-are };
           some = omega (arith, levels-are);
-          few = planful .levels-few;
-          whole = whole ∙ planful .octants-are;
           graded = graded-closes (dimsOf p) (p .levels) s graded;
         }
 

@@ -18,11 +18,14 @@ use Rattle.space.specs.Space.{ax, ay, az, Pos, pos}
 use Rattle.octants.specs.Table.{read}
 use Rattle.octree_cells.specs.Cells.{Cell, cells, flat}
 use Rattle.octree_cells.specs.Vertices.{names}
-use Rattle.vertex_keys.specs.Keys.{keyOf, tripleOf, Packs, Before}
+use Rattle.vertex_keys.specs.Keys.{mostKeys, keyOf, tripleOf, Packs, Before}
 use Rattle.sorting.proofs.Members.{members}
 use Rattle.sorting.proofs.Ranks.{number-of, distinct-strict}
 use Rattle.vertex_keys.proofs.Packing.{key-small, key-order, key-triple, triple-key}
-use Rattle.sides.specs.Told.{Taken}
+use Rattle.sides.specs.Parts.{Taken, cellsIn}
+use Rattle.octree.specs.Parts.{rootsOf}
+use Rattle.octree.specs.declared.Roots.{Roots}
+use Rattle.grid.specs.Parts.{rootsIn}
 use Rattle.leaf_cells.proofs.Bounds.{far, near-packs, cells-near}
 use Rattle.plan.specs.declared.Plan.{Plan}
 use Rattle.lattice.specs.Lattice.{latticeCells, latticeVertices, LatticeVertex, indexOf}
@@ -31,7 +34,7 @@ use Rattle.lattice.proofs.Named.{Each, named, listed, cells-vertices}
 use Rattle.grid.specs.Grid.{gridCells, gridVertices, vertexKeys, numberAt, cellTable}
 use Rattle.grid.specs.Step.{vertexCount}
 use Rattle.grid.specs.Whole.{cornersOf}
-use Rattle.grid.proofs.Outcomes.{neither}
+use Rattle.lists.proofs.Bools.{neither}
 
 -- ---- of every vertex of some cells
 
@@ -76,9 +79,12 @@ pub vertices-exactly : (l : ℕ) (d : Pos) (s : List ℕ) → SameSet (flat keyO
 unfolding vertexKeys
 vertices-exactly l d s = members (flat keyOf (cells l d (read d l s)))
 
-module _ (s : List ℕ) (nx ny nz l : ℕ) (h : Taken s nx ny nz l) where
+module _ (s : List ℕ) (r : Roots) (h : Taken s r) where
+  abbrev l : ℕ
+  l = r .levels
+
   abbrev d : Pos
-  d = pos nx ny nz
+  d = rootsOf r
 
   abbrev C : List Cell
   C = cells l d (read d l s)
@@ -86,18 +92,18 @@ module _ (s : List ℕ) (nx ny nz l : ℕ) (h : Taken s nx ny nz l) where
   abbrev K : List ℕ
   K = vertexKeys l d s
 
-  packs-all : Each Packs (cells l (pos nx ny nz) (read (pos nx ny nz) l s))
-  packs-all = packs-each C (cells-near s nx ny nz l h)
+  packs-all : Each Packs (cellsIn s r)
+  packs-all = packs-each C (cells-near s r h)
 
-  key-stands : (q : Pos) → Packs q → 0 < cnt (keyOf q) (flat keyOf (cells l (pos nx ny nz) (read (pos nx ny nz) l s)))
-      → Stands (λ x. rank (keyOf x) (vertexKeys l (pos nx ny nz) s)) (map tripleOf (vertexKeys l (pos nx ny nz) s)) q
+  key-stands : (q : Pos) → Packs q → 0 < cnt (keyOf q) (flat keyOf (cellsIn s r))
+      → Stands (λ x. rank (keyOf x) (vertexKeys (r .levels) (rootsOf r) s)) (map tripleOf (vertexKeys (r .levels) (rootsOf r) s)) q
   unfolding vertexKeys
   key-stands q p c =
-      let r = number-of (keyOf q) (flat keyOf C) c in
-      (omega (arith, r .0, length-map K tripleOf), map-at tripleOf K 0 (pos 0 0 0) (rank (keyOf q) K) (r .0) ∙ ap tripleOf (r .1) ∙ triple-key q p)
+      let f = number-of (keyOf q) (flat keyOf C) c in
+      (omega (arith, f .0, length-map K tripleOf), map-at tripleOf K 0 (pos 0 0 0) (rank (keyOf q) K) (f .0) ∙ ap tripleOf (f .1) ∙ triple-key q p)
 
-  octree-stands : (D : List Cell) → ((x : ℕ) → 0 < cnt x (flat keyOf D) → 0 < cnt x (flat keyOf (cells l (pos nx ny nz) (read (pos nx ny nz) l s)))) → Each Packs D
-      → Each (Stands (λ x. rank (keyOf x) (vertexKeys l (pos nx ny nz) s)) (map tripleOf (vertexKeys l (pos nx ny nz) s))) D
+  octree-stands : (D : List Cell) → ((x : ℕ) → 0 < cnt x (flat keyOf D) → 0 < cnt x (flat keyOf (cellsIn s r))) → Each Packs D
+      → Each (Stands (λ x. rank (keyOf x) (vertexKeys (r .levels) (rootsOf r) s)) (map tripleOf (vertexKeys (r .levels) (rootsOf r) s))) D
   unfolding flat many
   octree-stands [] a e = tt
   octree-stands (c ∷ D) a e = (
@@ -109,30 +115,30 @@ module _ (s : List ℕ) (nx ny nz l : ℕ) (h : Taken s nx ny nz l) where
   )
 
   -- a vertex is that of a cell
-  key-counted : (j : ℕ) → j < length (vertexKeys l (pos nx ny nz) s) → 0 < cnt (getD (vertexKeys l (pos nx ny nz) s) j 0) (flat keyOf (cells l (pos nx ny nz) (read (pos nx ny nz) l s)))
+  key-counted : (j : ℕ) → j < length (vertexKeys (r .levels) (rootsOf r) s) → 0 < cnt (getD (vertexKeys (r .levels) (rootsOf r) s) j 0) (flat keyOf (cellsIn s r))
   key-counted j b = omega (arith, cnt-at K j b, vertices-exactly l d s (getD K j 0))
 
-  key-packs : (j : ℕ) → j < length (vertexKeys l (pos nx ny nz) s) → Packs (tripleOf (getD (vertexKeys l (pos nx ny nz) s) j 0))
+  key-packs : (j : ℕ) → j < length (vertexKeys (r .levels) (rootsOf r) s) → Packs (tripleOf (getD (vertexKeys (r .levels) (rootsOf r) s) j 0))
   key-packs j b = go
     where
-      small : getD K j 0 < 549755813888
+      small : getD K j 0 < mostKeys
       small =
-          let r = cnt-find (getD K j 0) (flat keyOf C) (key-counted j b) in
-          let a = below-each keyOf 549755813888 C (each-map Packs (λ q. keyOf q < 549755813888) key-small C packs-all) in
-          omega (arith, below-at 549755813888 (flat keyOf C) a (r .0) (r .1), r .2)
+          let f = cnt-find (getD K j 0) (flat keyOf C) (key-counted j b) in
+          let a = below-each keyOf mostKeys C (each-map Packs (λ q. keyOf q < mostKeys) key-small C packs-all) in
+          omega (arith, below-at mostKeys (flat keyOf C) a (f .0) (f .1), f .2)
 
       go : Packs (tripleOf (getD K j 0))
       go ax = omega (arith, small)
       go ay = omega arith
       go az = omega arith
 
-  key-strict : (i j : ℕ) → i < j → j < length (vertexKeys l (pos nx ny nz) s) → getD (vertexKeys l (pos nx ny nz) s) i 0 < getD (vertexKeys l (pos nx ny nz) s) j 0
+  key-strict : (i j : ℕ) → i < j → j < length (vertexKeys (r .levels) (rootsOf r) s) → getD (vertexKeys (r .levels) (rootsOf r) s) i 0 < getD (vertexKeys (r .levels) (rootsOf r) s) j 0
   unfolding vertexKeys
   key-strict = distinct-strict (flat keyOf C)
 
   -- the vertices rise by x, then y, then z
-  keys-rise : (i j : ℕ) → i < j → j < length (map tripleOf (vertexKeys l (pos nx ny nz) s))
-      → Before (getD (map tripleOf (vertexKeys l (pos nx ny nz) s)) i (pos 0 0 0)) (getD (map tripleOf (vertexKeys l (pos nx ny nz) s)) j (pos 0 0 0))
+  keys-rise : (i j : ℕ) → i < j → j < length (map tripleOf (vertexKeys (r .levels) (rootsOf r) s))
+      → Before (getD (map tripleOf (vertexKeys (r .levels) (rootsOf r) s)) i (pos 0 0 0)) (getD (map tripleOf (vertexKeys (r .levels) (rootsOf r) s)) j (pos 0 0 0))
   keys-rise i j ij b =
       let x : ℕ = getD K i 0 in
       let y : ℕ = getD K j 0 in
@@ -142,31 +148,31 @@ module _ (s : List ℕ) (nx ny nz l : ℕ) (h : Taken s nx ny nz l) where
       (key-order (tripleOf x) (key-packs i bi) (tripleOf y) (key-packs j bj) .0 (omega (arith, key-triple x, key-triple y, key-strict i j ij bj)))
 
   -- a key's number is its place
-  key-rank : (j : ℕ) → j < length (vertexKeys l (pos nx ny nz) s) → rank (getD (vertexKeys l (pos nx ny nz) s) j 0) (vertexKeys l (pos nx ny nz) s) ≡ j
+  key-rank : (j : ℕ) → j < length (vertexKeys (r .levels) (rootsOf r) s) → rank (getD (vertexKeys (r .levels) (rootsOf r) s) j 0) (vertexKeys (r .levels) (rootsOf r) s) ≡ j
   unfolding vertexKeys
-  key-rank j b = go (ltOr r j) (ltOr j r)
+  key-rank j b = go (ltOr k j) (ltOr j k)
     where
       n : (rank (getD K j 0) K < length K) × (getD K (rank (getD K j 0) K) 0 ≡ getD K j 0)
       n = number-of (getD K j 0) (flat keyOf C) (key-counted j b)
 
-      r : ℕ
-      r = rank (getD K j 0) K
+      k : ℕ
+      k = rank (getD K j 0) K
 
-      go : (r < j) ⊎ (j ≤ r) → (j < r) ⊎ (r ≤ j) → rank (getD K j 0) K ≡ j
-      go (inl u) w = absurd (omega (arith, n .1, key-strict r j u b))
-      go (inr u) (inl w) = absurd (omega (arith, n .1, key-strict j r w (n .0)))
+      go : (k < j) ⊎ (j ≤ k) → (j < k) ⊎ (k ≤ j) → rank (getD K j 0) K ≡ j
+      go (inl u) w = absurd (omega (arith, n .1, key-strict k j u b))
+      go (inr u) (inl w) = absurd (omega (arith, n .1, key-strict j k w (n .0)))
       go (inr u) (inr w) = omega arith
 
   -- each vertex is named by a cell
-  keys-used : (j : ℕ) → j < length (map tripleOf (vertexKeys l (pos nx ny nz) s))
-      → (k : ℕ) × (k < length (flat (λ q. rank (keyOf q) (vertexKeys l (pos nx ny nz) s)) (cells l (pos nx ny nz) (read (pos nx ny nz) l s))))
-      × (getD (flat (λ q. rank (keyOf q) (vertexKeys l (pos nx ny nz) s)) (cells l (pos nx ny nz) (read (pos nx ny nz) l s))) k 0 ≡ j)
+  keys-used : (j : ℕ) → j < length (map tripleOf (vertexKeys (r .levels) (rootsOf r) s))
+      → (k : ℕ) × (k < length (flat (λ q. rank (keyOf q) (vertexKeys (r .levels) (rootsOf r) s)) (cellsIn s r)))
+      × (getD (flat (λ q. rank (keyOf q) (vertexKeys (r .levels) (rootsOf r) s)) (cellsIn s r)) k 0 ≡ j)
   keys-used j b =
       let f : (ℕ → ℕ) = λ x. rank x K in
       let bj : j < length K = omega (arith, length-map K tripleOf) in
-      let r = cnt-find (getD K j 0) (flat keyOf C) (key-counted j bj) in
+      let y = cnt-find (getD K j 0) (flat keyOf C) (key-counted j bj) in
       let e = flat-map f keyOf C in
-      (r .0, rw e (omega (arith, r .1, length-map (flat keyOf C) f)), rw e (map-at f (flat keyOf C) 0 0 (r .0) (r .1) ∙ ap f (r .2) ∙ key-rank j bj))
+      (y .0, rw e (omega (arith, y .1, length-map (flat keyOf C) f)), rw e (map-at f (flat keyOf C) 0 0 (y .0) (y .1) ∙ ap f (y .2) ∙ key-rank j bj))
 
 before-differs : (p q : Pos) → Before p q → p ≢ q
 before-differs p q (inl x) e = omega (arith, ap (λ (r : Pos). r ax) e)
@@ -179,36 +185,39 @@ module _ (s : List ℕ) (nx ny nz : ℕ) where
   abbrev o : Pos
   o = pos 0 0 0
 
-  all-stand : (l : ℕ) → (1 ≤ l → Taken s nx ny nz l) → Each (Stands (numberAt l (pos nx ny nz) s) (gridVertices l (pos nx ny nz) s)) (gridCells l (pos nx ny nz) s)
+  abbrev over : ℕ → Roots
+  over l = record { nx = nx; ny = ny; nz = nz; levels = l }
+
+  all-stand : (l : ℕ) → (1 ≤ l → Taken s (record { nx = nx; ny = ny; nz = nz; levels = l })) → Each (Stands (numberAt l (pos nx ny nz) s) (gridVertices l (pos nx ny nz) s)) (gridCells l (pos nx ny nz) s)
   unfolding numberAt gridVertices gridCells
   all-stand zero g =
       let e : Pos = pos nx ny nz in
       each-map (LatticeVertex e) (Stands (indexOf e) (latticeVertices e)) (named e o) (latticeCells e) (cells-vertices e)
   all-stand (suc l) g =
       let t = g (omega arith) in
-      octree-stands s nx ny nz (suc l) t (cells (suc l) (pos nx ny nz) (read (pos nx ny nz) (suc l) s)) (λ x a. a) (packs-all s nx ny nz (suc l) t)
+      octree-stands s (over (suc l)) t (cells (suc l) (pos nx ny nz) (read (pos nx ny nz) (suc l) s)) (λ x a. a) (packs-all s (over (suc l)) t)
 
-  rise-at : (l : ℕ) → Taken s nx ny nz l → (i j : ℕ) → i < j → j < length (gridVertices l (pos nx ny nz) s)
+  rise-at : (l : ℕ) → Taken s (record { nx = nx; ny = ny; nz = nz; levels = l }) → (i j : ℕ) → i < j → j < length (gridVertices l (pos nx ny nz) s)
       → Before (getD (gridVertices l (pos nx ny nz) s) i (pos 0 0 0)) (getD (gridVertices l (pos nx ny nz) s) j (pos 0 0 0))
   unfolding gridVertices
   rise-at zero t = absurd (omega (arith, t .some))
-  rise-at (suc l) t = keys-rise s nx ny nz (suc l) t
+  rise-at (suc l) t = keys-rise s (over (suc l)) t
 
-  used-at : (l : ℕ) → Taken s nx ny nz l → (j : ℕ) → j < length (gridVertices l (pos nx ny nz) s)
+  used-at : (l : ℕ) → Taken s (record { nx = nx; ny = ny; nz = nz; levels = l }) → (j : ℕ) → j < length (gridVertices l (pos nx ny nz) s)
       → (k : ℕ) × (k < length (flat (numberAt l (pos nx ny nz) s) (gridCells l (pos nx ny nz) s))) × (getD (flat (numberAt l (pos nx ny nz) s) (gridCells l (pos nx ny nz) s)) k 0 ≡ j)
   unfolding numberAt gridVertices gridCells
   used-at zero t = absurd (omega (arith, t .some))
-  used-at (suc l) t = keys-used s nx ny nz (suc l) t
+  used-at (suc l) t = keys-used s (over (suc l)) t
 
-  once-at : (l : ℕ) → (1 ≤ l → Taken s nx ny nz l) → (i j : ℕ) → i < j → j < length (gridVertices l (pos nx ny nz) s)
+  once-at : (l : ℕ) → (1 ≤ l → Taken s (record { nx = nx; ny = ny; nz = nz; levels = l })) → (i j : ℕ) → i < j → j < length (gridVertices l (pos nx ny nz) s)
       → getD (gridVertices l (pos nx ny nz) s) i (pos 0 0 0) ≢ getD (gridVertices l (pos nx ny nz) s) j (pos 0 0 0)
   unfolding gridVertices
   once-at zero g i j ij b e =
       let c : Pos = pos nx ny nz in
       omega (arith, ap (indexOf c) e, listed c o i (omega arith) .1, listed c o j b .1)
-  once-at (suc l) g i j ij b e = before-differs _ _ (keys-rise s nx ny nz (suc l) (g (omega arith)) i j ij b) e
+  once-at (suc l) g i j ij b e = before-differs _ _ (keys-rise s (over (suc l)) (g (omega arith)) i j ij b) e
 
-module _ (p : Plan) (s : List ℕ) (h : 1 ≤ p .levels → Taken s (p .nx) (p .ny) (p .nz) (p .levels)) where
+module _ (p : Plan) (s : List ℕ) (h : 1 ≤ p .levels → Taken s (rootsIn p)) where
   abbrev vs : List Pos
   vs = gridVertices (p .levels) (dimsOf p) s
 

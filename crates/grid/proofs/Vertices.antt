@@ -10,7 +10,7 @@ use Rattle.lists.proofs.Running.{run-same, length-run, sum-flat}
 use Rattle.space.specs.Space.{Axis, ax, ay, az}
 use Rattle.vertex_keys.specs.Keys.{tripleOf}
 use Rattle.plan.specs.Vertices.{spread}
-use Rattle.grid.specs.Octree.{threeOf, keyTable}
+use Rattle.grid.specs.Parts.{threeOf, keyTable}
 
 run-shift : {A : Type 0} (n : ℕ) (f : ℕ → List A) (i : ℕ) → run n f (suc i) ≡ run n (λ j. f (suc j)) i
 unfolding run

@@ -23,7 +23,8 @@ use Rattle.plan.specs.declared.Bounds.{Bounds}
 use Rattle.plan.specs.declared.Plan.{Plan}
 use Rattle.plan.specs.declared.Planned.{Planned}
 use Rattle.plan.specs.declared.Planned.the-variants as planned
-use Rattle.sides.specs.Told.{Taken}
+use Rattle.sides.specs.Parts.{Taken}
+use Rattle.grid.specs.Parts.{rootsIn}
 use Rattle.lattice.specs.Lattice.{latticeVertices, LatticeVertex, indexOf}
 use Rattle.lattice.proofs.Formulas.{cells-count, vertices-count}
 use Rattle.lattice.proofs.Named.{named, listed}
@@ -58,7 +59,7 @@ map-below f g v (x ∷ l) b h =
 
 -- ---- the tables of an answer
 
-module _ (p : Plan) (s C T P : List ℕ) (h : 1 ≤ p .levels → Taken s (p .nx) (p .ny) (p .nz) (p .levels)) where
+module _ (p : Plan) (s C T P : List ℕ) (h : 1 ≤ p .levels → Taken s (rootsIn p)) where
   front-is : take (4 * cellCount p s) (cellTable p s ++ C) ≡ cellTable p s
   front-is = take-at (cellTable p s) C (4 * cellCount p s) (length-cells p s)
 
@@ -162,7 +163,7 @@ module _ (b : Bounds) (c : Float) (levels : ℕ) (s C T P w : List ℕ) where
       tables : (C′ ≡ cellTable p s ++ drop (length (cellTable p s)) C) × (T′ ≡ tripleTable p s ++ drop (length (tripleTable p s)) T) × (P′ ≡ pointTable p s ++ drop (length (pointTable p s)) P)
       tables = (g .cells ∙ rw (is-done, is .ready) refl, g .triples ∙ rw (is-done, is .ready) refl, g .points ∙ rw (is-done, is .ready) refl)
 
-      takes : 1 ≤ p .levels → Taken s (p .nx) (p .ny) (p .nz) (p .levels)
+      takes : 1 ≤ p .levels → Taken s (rootsIn p)
       takes o = taken b c levels p (is .ready) s (is .accepted) (λ z. omega (arith, levels-are b c levels p (is .ready)))
 
       -- an answer: every cell and every vertex stands in the tables

@@ -3,14 +3,13 @@
 use mathlib.Core.Path.{_≡_}
 use mathlib.Core.Bool.{Bool, cond, not, _||_}
 use mathlib.Core.List.{List, [], _∷_, _++_}
-use Prim.Native.Nat.{ℕ, _*_, _/_, _≤_}
+use Prim.Native.Nat.{ℕ, _*_, _/_}
 use lib.Dec.{eqb, ltb}
 use lib.ListN.{length}
 use lib.Ieee.{Float}
 use Rattle.refusals.specs.Rows.{Row, _when_, first, unless}
 use Rattle.lists.specs.Tables.{allAtMost, front, zeroed}
 use Rattle.octants.specs.Judge.{isGraded}
-use Rattle.space.specs.Levels.{off}
 use Rattle.plan.specs.Step.{planOf, planRows, onPlan}
 use Rattle.plan.specs.declared.Bounds.{Bounds}
 use Rattle.plan.specs.declared.Plan.{Plan}
@@ -114,14 +113,3 @@ pub record GridDone (b : Bounds) (c : Float) (levels : ℕ) (s C T P w : List �
   pub triples : T′ ≡ resultAfter (gridOf b c levels s C T P w) (planned b c levels (λ p. tripleTable p s)) T
   pub points : P′ ≡ resultAfter (gridOf b c levels s C T P w) (planned b c levels (λ p. pointTable p s)) P
   pub work : w′ ≡ gridWork (gridOf b c levels s C T P w) w
-
--- ---- what the parts of the code ask
-
--- what is known of a plan that is ready
-pub record Planful (p : Plan) : Type 0 where
-  pub dims-some : (1 ≤ p .nx) × (1 ≤ p .ny) × (1 ≤ p .nz)
-  pub dims-few : (p .nx ≤ 128) × (p .ny ≤ 128) × (p .nz ≤ 128)
-  pub roots-few : 1 ≤ p .levels → (p .nx ≤ 64) × (p .ny ≤ 64) × (p .nz ≤ 64)
-  pub levels-few : p .levels ≤ 5
-  pub octants-are : p .octants ≡ off (dimsOf p) (p .levels)
-  pub octants-few : p .octants ≤ 1048576

@@ -4,9 +4,10 @@ ghost use Prim.Native.Nat.{_*_, _<_, _≤_};
 ghost use mathlib.Core.List.{[]};
 ghost use lib.ListN.{length};
 ghost use Rattle.refusals.specs.Rows.{first};
-ghost use Rattle.grid.specs.Step.{lacksCells, lacksVertices, splitRows, Planful, Filled, GridDone};
-ghost use Rattle.sides.specs.Told.{Taken};
-ghost use Rattle.grid.specs.Octree.{keyTable, KeysFit, Numberable, Ready, Fillable, Stocked};
+ghost use Rattle.grid.specs.Step.{lacksCells, lacksVertices, splitRows, Filled, GridDone};
+ghost use Rattle.sides.specs.Parts.{Taken};
+ghost use Rattle.space.specs.Levels.{mostOctants};
+ghost use Rattle.grid.specs.Parts.{Planful, rootsIn, keyTable, KeysFit, Numberable, Ready, Fillable, Stocked};
 ghost use Rattle.plan.specs.Vertices.{tripleAt, pointAt};
 ghost use lib.Seq.{sets};
 use octree::Roots;
@@ -44,6 +45,17 @@ fn lacks_vertices(v: usize, triples: usize, points: usize) -> bool
     points / 3 < v
 }
 
+fn roots_of(p: Plan) -> Roots
+    ensures { λ r. ⌜ r ≡ rootsIn p ⌝ }
+{
+    Roots {
+        nx: p.nx as usize,
+        ny: p.ny as usize,
+        nz: p.nz as usize,
+        levels: p.levels as usize,
+    }
+}
+
 // The number that a split table is refused with: 5, 6, 7, or 0.
 fn judge(split: &[u8], p: Plan) -> u32
     requires { ⌜ Planful p ⌝ }
@@ -58,13 +70,7 @@ fn judge(split: &[u8], p: Plan) -> u32
     if p.levels == 0 {
         return 0;
     }
-    let roots = Roots {
-        nx: p.nx as usize,
-        ny: p.ny as usize,
-        nz: p.nz as usize,
-        levels: p.levels as usize,
-    };
-    if !balance::is_graded(split, roots) {
+    if !balance::is_graded(split, roots_of(p)) {
         return 7;
     }
     0
@@ -107,9 +113,10 @@ fn store_vertices(keys: &[u64], v: usize, triples: &mut [u32], points: &mut [u32
     let mut i: usize = 0;
     while i < v {
         let key = keys[i];
-        let x = (key / 67_108_864) as u32;
-        let y = (key / 8_192 % 8_192) as u32;
-        let z = (key % 8_192) as u32;
+        let t = vertex_keys::unpack(key);
+        let x = t.x as u32;
+        let y = t.y as u32;
+        let z = t.z as u32;
         let px = plan::place(p.ox, p.half, x);
         let py = plan::place(p.oy, p.half, y);
         let pz = plan::place(p.oz, p.half, z);
@@ -122,21 +129,13 @@ fn store_vertices(keys: &[u64], v: usize, triples: &mut [u32], points: &mut [u32
 
 // Numbers the vertices of an octree in the work: the keys of its leaves' points, sorted, one of each, and behind them their index. The
 // list of leaves stays behind the room for nine keys a leaf and the size of the index.
-fn number_vertices(
-    split: &[u8],
-    nx: usize,
-    ny: usize,
-    nz: usize,
-    levels: usize,
-    many: usize,
-    work: &mut [u64],
-) -> usize
-    requires { ⌜ Numberable (now split) nx ny nz levels many (now work) ⌝ }
-    ensures { λ v. ⌜ Ready (now (split .entry)) nx ny nz levels many (now (work .exit)) v ⌝ }
+fn number_vertices(split: &[u8], d: Roots, many: usize, work: &mut [u64]) -> usize
+    requires { ⌜ Numberable (now split) d many (now work) ⌝ }
+    ensures { λ v. ⌜ Ready (now (split .entry)) d many (now (work .exit)) v ⌝ }
 {
     let keys = 9 * many;
     let list = keys + 1;
-    leaves::list_leaves(split, nx, ny, nz, levels, &mut work[list..list + many]);
+    leaves::list_leaves(split, d, &mut work[list..list + many]);
     leaf_cells::leaf_keys(work, list, many);
     let v = vertex_keys::number(&mut work[..keys]);
     vertex_keys::index(&mut work[..list], v);
@@ -156,30 +155,16 @@ fn octree_fill(
     requires { ⌜ Fillable p (now split) many (now cells) (now work) ⌝ }
     ensures { λ r. ⌜ Stocked p (now (split .entry)) (now (cells .entry)) (now (triples .entry)) (now (points .entry)) (now (work .entry)) r (now (cells .exit)) (now (triples .exit)) (now (points .exit)) (now (work .exit)) ⌝ }
 {
-    let nx = p.nx as usize;
-    let ny = p.ny as usize;
-    let nz = p.nz as usize;
-    let levels = p.levels as usize;
+    let d = roots_of(p);
     let count = cells.len() / 4;
-    let v = number_vertices(split, nx, ny, nz, levels, many, work);
+    let v = number_vertices(split, d, many, work);
     if lacks_vertices(v, triples.len(), points.len()) {
         lists::zero64(work);
         return Gridded::NoVertices(count as u64, v as u64);
     }
     let most = 3 * v;
     store_vertices(work, v, &mut triples[..most], &mut points[..most], p);
-    leaf_cells::store_cells(
-        split,
-        nx,
-        ny,
-        nz,
-        levels,
-        work,
-        v,
-        9 * many + 1,
-        many,
-        cells,
-    );
+    leaf_cells::store_cells(split, d, work, v, 9 * many + 1, many, cells);
     lists::zero64(work);
     Gridded::Done(count as u64, v as u64)
 }
@@ -193,16 +178,10 @@ fn octree_grid(
     points: &mut [u32],
     work: &mut [u64],
 ) -> Gridded
-    requires { ⌜ (1 ≤ p .levels) × Taken (now split) (p .nx) (p .ny) (p .nz) (p .levels) × (length (now split) ≤ 1048576) ⌝ }
+    requires { ⌜ (1 ≤ p .levels) × Taken (now split) (rootsIn p) × (length (now split) ≤ mostOctants) ⌝ }
     ensures { λ r. ⌜ Filled p (now (split .entry)) (now (cells .entry)) (now (triples .entry)) (now (points .entry)) (now (work .entry)) r (now (cells .exit)) (now (triples .exit)) (now (points .exit)) (now (work .exit)) ⌝ }
 {
-    let n = leaves::count_cells(
-        split,
-        p.nx as usize,
-        p.ny as usize,
-        p.nz as usize,
-        p.levels as usize,
-    );
+    let n = leaves::count_cells(split, roots_of(p));
     let count = n.cells;
     if lacks_cells(count, cells.len(), work.len()) {
         return Gridded::NoCells(count as u64);

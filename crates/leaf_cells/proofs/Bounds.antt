@@ -9,41 +9,42 @@ use native.Mathlib.Nat.{not-suc-le-zero, le-of-suc-le-suc}
 use lib.Dec.{leb}
 use lib.ListN.{length, getD}
 use borrow.Author.Tests.{leb-true, le-leb}
-use Rattle.space.specs.Space.{Axis, ax, ay, az, Pos, pos, Inside}
+use Rattle.space.specs.Space.{Axis, ax, ay, az, Pos, Inside}
 use Rattle.octants.specs.Oct.{Tree, width}
-use Rattle.lists.proofs.Bools.{or-cases, bool-cases, clash}
-use Rattle.octants.specs.Table.{read}
+use Rattle.lists.proofs.Bools.{or-cases, neither, bool-cases, clash}
 use Rattle.octree_cells.specs.Cells.{corner, centre, two, boxDown, overLeaves, cells}
 use Rattle.octree_cells.specs.Leaf.{IsLeaf}
 use Rattle.octree_cells.proofs.LeafSome.{leaves-some, box-some}
 use Rattle.octree_cells.specs.Vertices.{leafPoints, names, marks}
 use Rattle.octree_cells.proofs.Vertices.{vertices}
 use Rattle.lists.proofs.Cases.{ltOr}
-use Rattle.vertex_keys.specs.Keys.{Packs}
+use Rattle.vertex_keys.specs.Keys.{field, mostKeys, Packs}
 use Rattle.vertex_keys.proofs.Packing.{key-small}
-use Rattle.sides.specs.Told.{Taken}
-use Rattle.leaf_cells.specs.Listed.{keysOf, leafKeys}
+use Rattle.sides.specs.Parts.{Taken}
+use Rattle.octree.specs.Parts.{rootsOf, treeOf}
+use Rattle.octree.specs.declared.Roots.{Roots}
+use Rattle.leaf_cells.specs.Parts.{keysOf, leafKeys}
 use Rattle.leaf_cells.proofs.Keys.{along-few}
 
 -- a coordinate does not fit its field
 abbrev pub far : Pos → Bool
-far p = leb 8192 (p ax) || leb 8192 (p ay) || leb 8192 (p az)
+far p = leb field (p ax) || leb field (p ay) || leb field (p az)
 
 pub near-packs : (p : Pos) → far p ≡ false → Packs p
 near-packs p e a = go a
   where
-    small : (n : ℕ) → leb 8192 n ≡ false → n < 8192
-    small n q = ⊎-elim (λ h. h) (λ h. clash (le-leb 8192 n h) q) (ltOr n 8192)
+    small : (n : ℕ) → leb field n ≡ false → n < field
+    small n q = ⊎-elim (λ h. h) (λ h. clash (le-leb field n h) q) (ltOr n field)
 
     none : (u v w : Bool) → u || v || w ≡ false → (u ≡ false) × (v ≡ false) × (w ≡ false)
     none true v w q = clash refl q
     none false true w q = clash refl q
     none false false w q = (refl, refl, q)
 
-    go : (a : Axis) → p a < 8192
-    go ax = small (p ax) (none (leb 8192 (p ax)) (leb 8192 (p ay)) (leb 8192 (p az)) e .0)
-    go ay = small (p ay) (none (leb 8192 (p ax)) (leb 8192 (p ay)) (leb 8192 (p az)) e .1)
-    go az = small (p az) (none (leb 8192 (p ax)) (leb 8192 (p ay)) (leb 8192 (p az)) e .2)
+    go : (a : Axis) → p a < field
+    go ax = small (p ax) (none (leb field (p ax)) (leb field (p ay)) (leb field (p az)) e .0)
+    go ay = small (p ay) (none (leb field (p ax)) (leb field (p ay)) (leb field (p az)) e .1)
+    go az = small (p az) (none (leb field (p ax)) (leb field (p ay)) (leb field (p az)) e .2)
 
 far-append : (a b : List Pos) → marks far (a ++ b) ≡ marks far a || marks far b
 unfolding marks
@@ -54,32 +55,31 @@ far-append (p ∷ a) b = ap (λ (r : Bool). far p || r) (far-append a b) ∙ go 
     go true v w = refl
     go false v w = refl
 
-neither : (u v : Bool) → u || v ≡ false → (u ≡ false) × (v ≡ false)
-neither true v k = clash refl k
-neither false v k = (refl, k)
+module _ (s : List ℕ) (r : Roots) (h : Taken s r) where
+  abbrev l : ℕ
+  l = r .levels
 
-module _ (s : List ℕ) (nx ny nz l : ℕ) (h : Taken s nx ny nz l) where
   abbrev d : Pos
-  d = pos nx ny nz
+  d = rootsOf r
 
   abbrev t : Tree
-  t = read d l s
+  t = treeOf r s
 
   -- along an axis: a leaf ends within 4,096 units
   end-few : (m : ℕ) (x : Pos) → IsLeaf l d t m x → (a : Axis) → (x a + 1) * width m ≤ 4096
-  end-few m x leaf a = twice (x a + 1) (2 ^ m) (along-few s nx ny nz l h m x leaf a)
+  end-few m x leaf a = twice (x a + 1) (2 ^ m) (along-few s r h m x leaf a)
     where
       twice : (i n : ℕ) → i * n ≤ 2048 → i * (2 * n) ≤ 4096
       twice i n q = omega arith
 
   not-far : (p : Pos) → ((a : Axis) → p a ≤ 4096) → far p ≡ true → ⊥
-  not-far p q e = go (or-cases (leb 8192 (p ax) || leb 8192 (p ay)) (leb 8192 (p az)) e)
+  not-far p q e = go (or-cases (leb field (p ax) || leb field (p ay)) (leb field (p az)) e)
     where
-      at : (a : Axis) → leb 8192 (p a) ≡ true → ⊥
-      at a k = omega (arith, leb-true 8192 (p a) k, q a)
+      at : (a : Axis) → leb field (p a) ≡ true → ⊥
+      at a k = omega (arith, leb-true field (p a) k, q a)
 
-      go : (leb 8192 (p ax) || leb 8192 (p ay) ≡ true) ⊎ (leb 8192 (p az) ≡ true) → ⊥
-      go (inl k) = ⊎-elim (at ax) (at ay) (or-cases (leb 8192 (p ax)) (leb 8192 (p ay)) k)
+      go : (leb field (p ax) || leb field (p ay) ≡ true) ⊎ (leb field (p az) ≡ true) → ⊥
+      go (inl k) = ⊎-elim (at ax) (at ay) (or-cases (leb field (p ax)) (leb field (p ay)) k)
       go (inr k) = at az k
 
   corner-few : (m : ℕ) (x o : Pos) → IsLeaf l d t m x → Inside two o → (a : Axis) → corner m x o a ≤ 4096
@@ -102,14 +102,14 @@ module _ (s : List ℕ) (nx ny nz l : ℕ) (h : Taken s nx ny nz l) where
   unfolding marks
   leaf-near m x leaf e = ⊎-elim
       (λ k. not-far (centre m x) (centre-few m x leaf) k)
-      (λ k. let r = box-some (marks far) refl far-append two (λ o. corner m x o ∷ []) k in
-      not-far (corner m x (r .0)) (corner-few m x (r .0) leaf (r .1)) (⊎-elim (λ q. q) (λ q. clash q refl) (or-cases (far (corner m x (r .0))) false (r .2))))
+      (λ k. let c = box-some (marks far) refl far-append two (λ o. corner m x o ∷ []) k in
+      not-far (corner m x (c .0)) (corner-few m x (c .0) leaf (c .1)) (⊎-elim (λ q. q) (λ q. clash q refl) (or-cases (far (corner m x (c .0))) false (c .2))))
       (or-cases (far (centre m x)) (marks far (boxDown two (λ o. corner m x o ∷ []))) e)
 
   points-near : marks far (overLeaves l d t leafPoints) ≡ false
   unfolding marks
   points-near = ⊎-elim
-      (λ e. let r = leaves-some (marks far) refl far-append l d t leafPoints (h .graded .finest) e in absurd (leaf-near (r .0) (r .1) (r .2) (r .3)))
+      (λ e. let y = leaves-some (marks far) refl far-append l d t leafPoints (h .graded .finest) e in absurd (leaf-near (y .0) (y .1) (y .2) (y .3)))
       (λ e. e)
       (bool-cases (marks far (overLeaves l d t leafPoints)))
 
@@ -117,12 +117,12 @@ module _ (s : List ℕ) (nx ny nz l : ℕ) (h : Taken s nx ny nz l) where
   pub cells-near : names far (cells l d t) ≡ false
   cells-near = vertices l d t (h .graded) far ∙ points-near
 
-  keys-under : (ps : List Pos) → marks far ps ≡ false → (j : ℕ) → j < length (keysOf ps) → getD (keysOf ps) j 0 < 549755813888
+  keys-under : (ps : List Pos) → marks far ps ≡ false → (j : ℕ) → j < length (keysOf ps) → getD (keysOf ps) j 0 < mostKeys
   unfolding marks keysOf
   keys-under [] e j p = absurd (not-suc-le-zero p)
   keys-under (q ∷ ps) e zero p = key-small q (near-packs q (neither (far q) (marks far ps) e .0))
   keys-under (q ∷ ps) e (suc j) p = keys-under ps (neither (far q) (marks far ps) e .1) j (le-of-suc-le-suc p)
 
-  -- every key of a leaf's vertices is below 2 ^ 39
-  pub keys-small : (j : ℕ) → j < length (leafKeys l d t) → getD (leafKeys l d t) j 0 < 549755813888
+  -- every key of a leaf's vertices is below their bound
+  pub keys-small : (j : ℕ) → j < length (leafKeys l d t) → getD (leafKeys l d t) j 0 < mostKeys
   keys-small = keys-under (overLeaves l d t leafPoints) points-near

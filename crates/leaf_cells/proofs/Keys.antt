@@ -16,10 +16,15 @@ use Rattle.octree_cells.specs.Leaf.{IsLeaf}
 use Rattle.octree_cells.specs.Vertices.{leafPoints}
 use Rattle.lists.specs.Runs.{run, Storing}
 use Rattle.lists.proofs.Running.{loop-start, loop-next, loop-done}
-use Rattle.vertex_keys.specs.Keys.{keyOf}
-use Rattle.sides.specs.Told.{Taken}
+use Rattle.vertex_keys.specs.Keys.{mostKeys, keyOf, stride}
+use Rattle.sides.specs.Parts.{Taken}
+use Rattle.leaves.specs.Parts.{levelIn, placeIn}
+use Rattle.octree.specs.Parts.{rootsOf, treeOf}
+use Rattle.octree.specs.declared.Roots.{Roots}
+use Rattle.space.specs.Levels.{mostAlong}
+use Rattle.vertex_keys.proofs.Packing.{key-triple}
 use Rattle.face_cells.proofs.Link.{lowKey, half, key-of, key-centre}
-use Rattle.leaf_cells.specs.Listed.{levelIn, placeIn, Placed, AllPlaced, nineKeys, keysOf, keysIn, keysFrom, Standing}
+use Rattle.leaf_cells.specs.Parts.{Placed, AllPlaced, ListedIn, lowIn, nineKeys, keysOf, keysIn, keysFrom, Standing}
 use Rattle.leaf_cells.proofs.Leafwise.{listed}
 
 cons : {x y : ℕ} {xs ys : List ℕ} → x ≡ y → xs ≡ ys → x ∷ xs ≡ y ∷ ys
@@ -38,43 +43,32 @@ nine-link m x =
 
 -- ---- the key of the low corner, read off the leaf's number
 
-spread : (i j k w : ℕ) → (i * 67108864 + j * 8192 + k) * w ≡ i * w * 67108864 + j * w * 8192 + k * w * 1
+spread : (i j k w : ℕ) → (i * stride ax + j * stride ay + k) * w ≡ i * w * stride ax + j * w * stride ay + k * w * stride az
 spread i j k w = omega arith
 
-module _ (z h : ℕ) (e : h ≡ 1 * 2 ^ levelIn z) where
-  pub low-is : z % 549755813888 * (2 * h) ≡ lowKey (levelIn z) (placeIn z) ax
-  low-is =
-      let p : z % 549755813888 ≡ placeIn z ax * 67108864 + placeIn z ay * 8192 + placeIn z az = omega arith in
-      let q : 2 * h ≡ width (levelIn z) = omega (arith, e) in
-      ap₂ (λ (a b : ℕ). a * b) p q ∙ spread (placeIn z ax) (placeIn z ay) (placeIn z az) (width (levelIn z))
+pub low-key : (z : ℕ) → lowIn z ≡ lowKey (levelIn z) (placeIn z) ax
+unfolding keyOf
+low-key z = ap (λ (k : ℕ). k * width (levelIn z)) (sym (key-triple (z % mostKeys))) ∙ spread (placeIn z ax) (placeIn z ay) (placeIn z az) (width (levelIn z))
 
-  pub record Halves : Type 0 where
-    pub onX : h * 67108864 ≡ half (levelIn z) ax
-    pub onY : h * 8192 ≡ half (levelIn z) ay
-    pub onZ : h ≡ half (levelIn z) az
+-- every key is small
+pub half-few : (z : ℕ) → Placed z → 2 ^ levelIn z ≤ 32
+half-few z p = pow-mono (p .few)
 
-  pub halves-are : Halves
-  halves-are = record { onX = omega (arith, e); onY = omega (arith, e); onZ = omega (arith, e) }
+pub low-few : (z : ℕ) → Placed z → lowIn z ≤ 4096 * 67117057
+low-few z p = omega (arith, low-key z, u ax, u ay, u az)
+  where
+    twice : (i n : ℕ) → i * n ≤ 2048 → i * (2 * n) ≤ 4096
+    twice i n q = omega arith
 
-  -- every key is small
-  pub record Small : Type 0 where
-    pub wide : h ≤ 32
-    pub low : z % 549755813888 * (2 * h) ≤ 4096 * 67117057
+    u : (a : Axis) → placeIn z a * width (levelIn z) ≤ 4096
+    u a = twice (placeIn z a) (2 ^ levelIn z) (p .within a)
 
-  pub small : Placed z → Small
-  small p =
-      let g : 2 ^ levelIn z ≤ 32 = pow-mono (p .few) in
-      let u : ((a : Axis) → placeIn z a * width (levelIn z) ≤ 4096) = λ a. twice (placeIn z a) (2 ^ levelIn z) (p .within a) in
-      record { wide = omega (arith, e); low = omega (arith, low-is, u ax, u ay, u az) }
-    where
-      twice : (i n : ℕ) → i * n ≤ 2048 → i * (2 * n) ≤ 4096
-      twice i n q = omega arith
-
-  five : {k k′ u u′ v v′ w w′ : ℕ} → k ≡ k′ → u ≡ u′ → v ≡ v′ → w ≡ w′ → nineKeys k u v w ≡ nineKeys k′ u′ v′ w′
-  five p q r s = cc
-
-  pub keys-are : keysIn z ≡ nineKeys (z % 549755813888 * (2 * h)) (h * 67108864) (h * 8192) h
-  keys-are = nine-link (levelIn z) (placeIn z) ∙ sym (five low-is (halves-are .onX) (halves-are .onY) (halves-are .onZ))
+pub keys-are : (z k h : ℕ) → k ≡ lowIn z → h ≡ 2 ^ levelIn z → keysIn z ≡ nineKeys k (h * stride ax) (h * stride ay) h
+keys-are z k h e f =
+    let g : 2 ^ levelIn z * stride az ≡ 2 ^ levelIn z = omega arith in
+    nine-link (levelIn z) (placeIn z)
+    ∙ ap₂ (λ (a b : ℕ). nineKeys a (2 ^ levelIn z * stride ax) (2 ^ levelIn z * stride ay) b) (sym (low-key z)) g
+    ∙ rw (e, f) refl
 
 pub keys-nine : (z : ℕ) → length (keysIn z) ≡ 9
 unfolding nineKeys
@@ -89,35 +83,27 @@ pow-join a (suc b) =
     let f : 2 ^ a * 2 ^ suc b ≡ 2 ^ a * (2 ^ b + 2 ^ b) = ap (λ (n : ℕ). 2 ^ a * n) (two-pow-succ b) in
     rw e (omega (arith, f, two-pow-succ (a + b), pow-join a b))
 
-module _ (s : List ℕ) (nx ny nz l : ℕ) (h : Taken s nx ny nz l) where
+module _ (s : List ℕ) (d : Roots) (h : Taken s d) where
   -- a leaf ends within 2,048 finest octants
-  pub along-few : (m : ℕ) (x : Pos) → IsLeaf l (pos nx ny nz) (read (pos nx ny nz) l s) m x → (a : Axis) → (x a + 1) * 2 ^ m ≤ 2048
-  along-few m x leaf = go
-    where
-      joined : 2 ^ (l - m) * 2 ^ m ≡ 2 ^ l
-      joined = let e : l - m + m ≡ l = omega (arith, leaf .fits) in pow-join (l - m) m ∙ ap (λ (k : ℕ). 2 ^ k) e
+  pub along-few : (m : ℕ) (x : Pos) → IsLeaf (d .levels) (rootsOf d) (treeOf d s) m x → (a : Axis) → (x a + 1) * 2 ^ m ≤ mostAlong
+  along-few m x leaf a =
+      let l = d .levels in
+      let n = rootsOf d a in
+      let e : l - m + m ≡ l = omega (arith, leaf .fits) in
+      let g : n * (2 ^ (l - m) * 2 ^ m) ≡ n * 2 ^ l = ap (λ (k : ℕ). n * k) (pow-join (l - m) m ∙ ap (λ (k : ℕ). 2 ^ k) e) in
+      let p : x a + 1 ≤ n * 2 ^ (l - m) = omega (arith, leaf .inside a) in
+      let r : 2 ^ m ≤ 2 ^ m = omega arith in
+      let b : (x a + 1) * 2 ^ m ≤ n * 2 ^ (l - m) * 2 ^ m = mul-le-mul p r in
+      let q : 2 ^ l ≤ 32 = pow-mono (h .covers .levels) in
+      let f : n * 2 ^ l ≤ 64 * 32 = mul-le-mul (h .covers .roots .few a) q in
+      let c : n * 2 ^ (l - m) * 2 ^ m ≡ n * (2 ^ (l - m) * 2 ^ m) = omega arith in
+      omega arith
 
-      along : (i n : ℕ) → i < n * 2 ^ (l - m) → n ≤ 64 → (i + 1) * 2 ^ m ≤ 2048
-      along i n p q =
-          let a : i + 1 ≤ n * 2 ^ (l - m) = omega arith in
-          let r : 2 ^ m ≤ 2 ^ m = omega arith in
-          let b : (i + 1) * 2 ^ m ≤ n * 2 ^ (l - m) * 2 ^ m = mul-le-mul a r in
-          let c : n * 2 ^ (l - m) * 2 ^ m ≡ n * (2 ^ (l - m) * 2 ^ m) = omega arith in
-          let d : 2 ^ l ≤ 32 = pow-mono (h .few) in
-          let f : n * 2 ^ l ≤ 64 * 32 = mul-le-mul q d in
-          let g : n * (2 ^ (l - m) * 2 ^ m) ≡ n * 2 ^ l = ap (λ (k : ℕ). n * k) joined in
-          omega arith
+  pub placed : (z : ℕ) → ListedIn s d z → Placed z
+  placed z leaf = record { few = omega (arith, leaf .fits, h .covers .levels); within = λ a. omega (arith, along-few (levelIn z) (placeIn z) leaf a) }
 
-      go : (a : Axis) → (x a + 1) * 2 ^ m ≤ 2048
-      go ax = along (x ax) nx (leaf .inside ax) (h .dims .few ax)
-      go ay = along (x ay) ny (leaf .inside ay) (h .dims .few ay)
-      go az = along (x az) nz (leaf .inside az) (h .dims .few az)
-
-  pub placed : (z : ℕ) → IsLeaf l (pos nx ny nz) (read (pos nx ny nz) l s) (levelIn z) (placeIn z) → Placed z
-  placed z leaf = record { few = omega (arith, leaf .fits, h .few); within = λ a. omega (arith, along-few (levelIn z) (placeIn z) leaf a) }
-
-  pub all-placed : (w : List ℕ) (list leaves : ℕ) → Standing s nx ny nz l w list leaves → AllPlaced w list leaves
-  all-placed w list leaves k j p = placed (getD w (list + j) 0) (listed s nx ny nz l h w list leaves k j p)
+  pub all-placed : (w : List ℕ) (list leaves : ℕ) → Standing s d w list leaves → AllPlaced w list leaves
+  all-placed w list leaves k j p = placed (getD w (list + j) 0) (listed s d h w list leaves k j p)
 
 -- ---- the loop over the leaves, in the table that holds their list
 

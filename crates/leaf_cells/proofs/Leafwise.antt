@@ -10,10 +10,9 @@ use lib.Dec.{eqb}
 use lib.ListN.{length, getD, drop}
 use lib.Seq.{getD-take, getD-drop}
 use borrow.Author.Tests.{eqb-true, eq-eqb}
-use Rattle.space.specs.Space.{Pos, pos}
+use Rattle.space.specs.Space.{Pos}
 use Rattle.octants.specs.Oct.{Tree}
 use Rattle.lists.proofs.Bools.{or-cases, clash}
-use Rattle.octants.specs.Table.{read}
 use Rattle.octree_cells.specs.Cells.{Cell, leafCells, cells, overLeaves, flat}
 use Rattle.octree_cells.specs.Leaf.{IsLeaf}
 use Rattle.octree_cells.proofs.LeafSome.{leaves-some}
@@ -24,12 +23,14 @@ use Rattle.lists.specs.Tests.{bit}
 use Rattle.sorting.specs.Entries.{many}
 use Rattle.sorting.specs.Numbers.{cnt, SameSet}
 use Rattle.lists.proofs.Running.{run-same}
-use Rattle.vertex_keys.specs.Keys.{keyOf}
-use Rattle.sides.specs.Told.{Taken}
+use Rattle.vertex_keys.specs.Keys.{keyOf, Packs}
+use Rattle.octree.specs.Parts.{rootsOf, treeOf}
+use Rattle.octree.specs.declared.Roots.{Roots}
+use Rattle.sides.specs.Parts.{Taken, cellsIn}
 use Rattle.sides.proofs.Levels.{in-small}
-use Rattle.leaves.specs.Leaves.{packed, alone, leafList}
+use Rattle.leaves.specs.Parts.{packed, levelIn, placeIn, alone, leafList}
 use Rattle.octree_cells.proofs.Flat.{flat-append}
-use Rattle.leaf_cells.specs.Listed.{levelIn, placeIn, keysOf, keysFrom, leafKeys, Standing}
+use Rattle.leaf_cells.specs.Parts.{keysOf, keysFrom, leafKeys, Standing}
 use Rattle.leaf_cells.proofs.Listing.{level-back, place-back, each, each-leaves, each-run, map-each, leaves-same}
 
 -- ---- an entry of the list is a leaf
@@ -57,26 +58,29 @@ has-at (y ∷ ys) (suc j) h = ap (λ (b : Bool). eqb (getD ys j 0) y || b) (has-
     go true = refl
     go false = refl
 
-module _ (s : List ℕ) (nx ny nz l : ℕ) (h : Taken s nx ny nz l) where
+module _ (s : List ℕ) (r : Roots) (h : Taken s r) where
+  abbrev l : ℕ
+  l = r .levels
+
   abbrev d : Pos
-  d = pos nx ny nz
+  d = rootsOf r
 
   abbrev t : Tree
-  t = read d l s
+  t = treeOf r s
 
   unpacked : (m : ℕ) (x : Pos) → IsLeaf l d t m x → (levelIn (packed m x) ≡ m) × (placeIn (packed m x) ≡ x)
-  unpacked m x leaf = let b = in-small nx ny nz l m x (h .dims) (h .few) (leaf .inside) in (level-back m x b, place-back m x b)
+  unpacked m x leaf = let b : Packs x = λ a. omega (arith, in-small d l m x (h .covers .roots) (h .covers .levels) (leaf .inside) a) in (level-back m x b, place-back m x b)
 
   pub leaf-at : (j : ℕ) → j < length (leafList l d t) → IsLeaf l d t (levelIn (getD (leafList l d t) j 0)) (placeIn (getD (leafList l d t) j 0))
   unfolding has
   leaf-at j p =
       let z : ℕ = getD (leafList l d t) j 0 in
-      let r = leaves-some (has z) refl (has-append z) l d t alone (h .graded .finest) (has-at (leafList l d t) j p) in
-      let q : eqb z (packed (r .0) (r .1)) ≡ true = ⊎-elim (λ k. k) (λ k. clash k refl) (or-cases (eqb z (packed (r .0) (r .1))) false (r .3)) in
-      let e : z ≡ packed (r .0) (r .1) = eqb-true z (packed (r .0) (r .1)) q in
-      let u = unpacked (r .0) (r .1) (r .2) in
+      let y = leaves-some (has z) refl (has-append z) l d t alone (h .graded .finest) (has-at (leafList l d t) j p) in
+      let q : eqb z (packed (y .0) (y .1)) ≡ true = ⊎-elim (λ k. k) (λ k. clash k refl) (or-cases (eqb z (packed (y .0) (y .1))) false (y .3)) in
+      let e : z ≡ packed (y .0) (y .1) = eqb-true z (packed (y .0) (y .1)) q in
+      let u = unpacked (y .0) (y .1) (y .2) in
       subst (λ (n : ℕ). IsLeaf l d t n (placeIn z)) (sym (ap levelIn e ∙ u .0))
-      (subst (λ (x : Pos). IsLeaf l d t (r .0) x) (sym (ap placeIn e ∙ u .1)) (r .2))
+      (subst (λ (x : Pos). IsLeaf l d t (y .0) x) (sym (ap placeIn e ∙ u .1)) (y .2))
 
   -- what the leaves give, entry by entry
   module _ {A : Type 0} (f : ℕ → Pos → List A) where
@@ -93,7 +97,7 @@ module _ (s : List ℕ) (nx ny nz l : ℕ) (h : Taken s nx ny nz l) where
           ∙ each-run (λ z. g (f (levelIn z) (placeIn z))) (leafList l d t)
 
       -- the list as it stands in the work
-      module _ (w : List ℕ) (list leaves : ℕ) (k : Standing s nx ny nz l w list leaves) where
+      module _ (w : List ℕ) (list leaves : ℕ) (k : Standing s r w list leaves) where
         entry-at : (j : ℕ) → j < leaves → getD w (list + j) 0 ≡ getD (leafList l d t) j 0
         entry-at j p = sym (getD-drop list w j 0) ∙ sym (getD-take leaves (drop list w) j 0 p) ∙ ap (λ (r : List ℕ). getD r j 0) (k .here)
 
@@ -102,9 +106,9 @@ module _ (s : List ℕ) (nx ny nz l : ℕ) (h : Taken s nx ny nz l) where
             by-list ∙ ap (λ (n : ℕ). run n (λ j. g (f (levelIn (getD (leafList l d t) j 0)) (placeIn (getD (leafList l d t) j 0)))) 0) (sym (k .many))
             ∙ run-same leaves _ _ 0 (λ j a b. ap (λ (z : ℕ). g (f (levelIn z) (placeIn z))) (sym (entry-at j (omega arith))))
 
-  module _ (w : List ℕ) (list leaves : ℕ) (k : Standing s nx ny nz l w list leaves) where
+  module _ (w : List ℕ) (list leaves : ℕ) (k : Standing s r w list leaves) where
     same-at : (j : ℕ) → j < leaves → getD w (list + j) 0 ≡ getD (leafList l d t) j 0
-    same-at = entry-at alone (λ (r : List ℕ). r) refl (λ a b. refl) w list leaves k
+    same-at = entry-at alone (λ (z : List ℕ). z) refl (λ a b. refl) w list leaves k
 
     pub listed : (j : ℕ) → j < leaves → IsLeaf l d t (levelIn (getD w (list + j) 0)) (placeIn (getD w (list + j) 0))
     listed j p = subst (λ (z : ℕ). IsLeaf l d t (levelIn z) (placeIn z)) (sym (same-at j p)) (leaf-at j (omega (arith, k .many)))
@@ -148,7 +152,6 @@ cnt-marks x (p ∷ ps) = go (eqb x (keyOf p)) (cnt x (keysOf ps)) (marks (λ p. 
     go true n b e = omega arith
     go false n b e = omega arith
 
-pub same-vertices : (s : List ℕ) (nx ny nz l : ℕ) → Taken s nx ny nz l
-    → SameSet (flat keyOf (cells l (pos nx ny nz) (read (pos nx ny nz) l s))) (leafKeys l (pos nx ny nz) (read (pos nx ny nz) l s))
-same-vertices s nx ny nz l h x =
-    cnt-marks x _ ∙ ap bit (sym (vertices l (pos nx ny nz) (read (pos nx ny nz) l s) (h .graded) (λ p. eqb x (keyOf p)))) ∙ sym (cnt-names x _)
+pub same-vertices : (s : List ℕ) (d : Roots) → Taken s d → SameSet (flat keyOf (cellsIn s d)) (leafKeys (d .levels) (rootsOf d) (treeOf d s))
+same-vertices s d h x =
+    cnt-marks x _ ∙ ap bit (sym (vertices (d .levels) (rootsOf d) (treeOf d s) (h .graded) (λ p. eqb x (keyOf p)))) ∙ sym (cnt-names x _)

@@ -1,39 +1,32 @@
 -- From the list of leaves to what the leaves give. Assumes nothing.
-use mathlib.Core.Path.{_≡_, refl, sym, ap, _∙_, subst, fun-ext}
-use mathlib.Core.Bool.{Bool, true, false, cond, not, _&&_}
+use mathlib.Core.Path.{_≡_, refl, sym, ap, _∙_, fun-ext}
+use mathlib.Core.Bool.{Bool, true, false, cond}
 use mathlib.Core.List.{List, [], _∷_, _++_, append-nil, append-assoc}
-use Prim.Native.Nat.{ℕ, zero, suc, _+_, _-_, _*_, _^_, _≤_, _<_}
+use Prim.Native.Nat.{ℕ, zero, suc, _+_, _-_, _%_}
 use native.Mathlib.Omega.{arith}
 use lib.ListN.{length, getD}
-use Rattle.space.specs.Space.{Axis, ax, ay, az, Pos, Inside}
-use Rattle.octants.specs.Oct.{Tree, In}
-use Rattle.lists.proofs.Bools.{both-and}
-use Rattle.octants.proofs.Axis1.{child-in}
+use Rattle.space.specs.Space.{Pos, Inside}
+use Rattle.octants.specs.Oct.{Tree}
 use Rattle.space.specs.Levels.{size}
 use Rattle.octants.specs.Table.{place}
 use Rattle.octants.proofs.TableLaws.{place-in}
 use Rattle.octree_cells.specs.Cells.{down, boxDown, below, child, two, overLeaves}
-use Rattle.octree_cells.specs.Leaf.{opened}
-use Rattle.octree_cells.proofs.Opened.{own-opened, opened-parent, parent-child, two-lt}
-use Rattle.octree_cells.specs.Leaf.{IsLeaf}
+use Rattle.octree_cells.proofs.Opened.{root-reached, child-reached, leaf-reached}
+use Rattle.octree_cells.specs.Leaf.{IsLeaf, Reached}
+use Rattle.vertex_keys.specs.Keys.{mostKeys, keyOf, tripleOf, Packs}
+use Rattle.vertex_keys.proofs.Packing.{key-small, triple-key}
 use Rattle.lists.specs.Runs.{run}
-use Rattle.leaves.specs.Leaves.{packed, alone, leafList}
+use Rattle.leaves.specs.Parts.{packed, levelIn, placeIn, alone, leafList}
 use Rattle.leaves.proofs.Lines.{box-line, down-cong}
-use Rattle.leaf_cells.specs.Listed.{levelIn, placeIn}
 
 -- ---- a leaf from its number
 
-module _ (m : ℕ) (x : Pos) (h : (x ax < 2048) × (x ay < 2048) × (x az < 2048)) where
+module _ (m : ℕ) (x : Pos) (h : Packs x) where
   pub level-back : levelIn (packed m x) ≡ m
-  level-back = omega (arith, h)
+  level-back = omega (arith, key-small x h)
 
   pub place-back : placeIn (packed m x) ≡ x
-  place-back = fun-ext go
-    where
-      go : (a : Axis) → placeIn (packed m x) a ≡ x a
-      go ax = omega (arith, h)
-      go ay = omega (arith, h)
-      go az = omega (arith, h)
+  place-back = let e : packed m x % mostKeys ≡ keyOf x = omega (arith, key-small x h) in ap tripleOf e ∙ triple-key x h
 
 -- ---- each entry of a list in turn
 
@@ -97,33 +90,15 @@ module _ {A : Type 0} (l : ℕ) (d : Pos) (t : Tree) (finest : (x : Pos) → t 0
   box-same : (n : Pos) (p q : Pos → List A) → ((x : Pos) → Inside n x → p x ≡ q x) → boxDown n p ≡ boxDown n q
   box-same n p q h = box-line n p ∙ down-cong (size n) _ _ (λ r k. h (place n r) (place-in n r k)) ∙ sym (box-line n q)
 
-  below-same : (m : ℕ) (x : Pos) → m ≤ l → In l d m x → opened t m x (l - m) ≡ true → below t f m x ≡ below t g m x
+  below-same : (m : ℕ) (x : Pos) → Reached l d t m x → below t f m x ≡ below t g m x
   unfolding below
-  below-same zero x p q o =
-      same 0 x (record { fits = p; inside = q; owns = own-opened t 0 x (l - 0) ∙ both-and _ _ o (ap not (finest x)) })
-  below-same (suc m) x p q o =
-      go (t (suc m) x) refl (λ c e k. below-same m (child x c) (omega arith) (child-inside c e) (child-opened c e k))
+  below-same zero x r = same 0 x (leaf-reached l d t r (finest x))
+  below-same (suc m) x r = go (t (suc m) x) refl (λ c e k. below-same m (child x c) (child-reached l d t r k c e))
     where
-      child-inside : (c : Pos) → Inside two c → In l d m (child x c)
-      child-inside c e ax = child-in l (d ax) m (x ax) (c ax) p (e ax) (q ax)
-      child-inside c e ay = child-in l (d ay) m (x ay) (c ay) p (e ay) (q ay)
-      child-inside c e az = child-in l (d az) m (x az) (c az) p (e az) (q az)
-
-      child-opened : (c : Pos) → Inside two c → t (suc m) x ≡ true → opened t m (child x c) (l - m) ≡ true
-      child-opened c e k =
-          let z : l - m ≡ suc (l - suc m) = omega arith in
-          ap (opened t m (child x c)) z ∙ opened-parent t m (child x c) (l - suc m)
-          ∙ ap (λ (y : Pos). t (suc m) y && opened t (suc m) y (l - suc m)) (parent-child x c (two-lt c e))
-          ∙ both-and (t (suc m) x) (opened t (suc m) x (l - suc m)) k o
-
       go : (b : Bool) → t (suc m) x ≡ b → ((c : Pos) → Inside two c → t (suc m) x ≡ true → below t f m (child x c) ≡ below t g m (child x c))
           → cond (t (suc m) x) (boxDown two (λ c. below t f m (child x c))) (f (suc m) x) ≡ cond (t (suc m) x) (boxDown two (λ c. below t g m (child x c))) (g (suc m) x)
       go true e h = rw e (box-same two _ _ (λ c k. h c k e))
-      go false e h = rw e (same (suc m) x (record { fits = p; inside = q; owns = own-opened t (suc m) x (l - suc m) ∙ both-and _ _ o (ap not e) }))
+      go false e h = rw e (same (suc m) x (leaf-reached l d t r e))
 
   pub leaves-same : overLeaves l d t f ≡ overLeaves l d t g
-  unfolding opened
-  leaves-same =
-      let z : l - l ≡ 0 = omega arith in
-      box-same d (below t f l) (below t g l)
-      (λ x h. below-same l x (omega arith) (λ a. let e : d a * 2 ^ (l - l) ≡ d a = ap (λ (k : ℕ). d a * 2 ^ k) z ∙ omega arith in subst (λ (n : ℕ). x a < n) (sym e) (h a)) (ap (opened t l x) z))
+  leaves-same = box-same d (below t f l) (below t g l) (λ x h. below-same l x (root-reached l d t x h))

@@ -1,1 +1,2 @@
-pub mod Listed
+-- What a listed leaf stands for.
+pub mod Parts

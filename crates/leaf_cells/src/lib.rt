@@ -1,19 +1,23 @@
 // From the list of leaves: the keys of their vertices, and the cells that they give.
 use face_cells::six_faces;
+use leaves::unpack;
+use octree::Roots;
 use octree::along;
 use sides::sides_at;
+use vertex_keys::KEYS;
+use vertex_keys::STRIDE_X;
+use vertex_keys::STRIDE_Y;
 ghost use mathlib.Core.Path.{_≡_};
 ghost use Prim.Native.Nat.{_+_, _*_, _^_, _≤_, _<_};
 ghost use lib.ListN.{length};
 ghost use lib.Seq.{sets};
-ghost use Rattle.space.specs.Space.{pos};
-ghost use Rattle.octants.specs.Table.{read};
-ghost use Rattle.octree_cells.specs.Cells.{leafCells, cells, flat};
-ghost use Rattle.octree_cells.specs.Leaf.{IsLeaf};
 ghost use Rattle.lists.specs.Runs.{Stored, Room};
+ghost use Rattle.octree_cells.specs.Cells.{flat};
+ghost use Rattle.vertex_keys.specs.Keys.{mostKeys};
 ghost use Rattle.vertex_keys.specs.Parts.{Lookup};
-ghost use Rattle.sides.specs.Told.{Taken};
-ghost use Rattle.leaf_cells.specs.Listed.{levelIn, placeIn, Placed, AllPlaced, nineKeys, keysIn, keysFrom, numberIn, Standing};
+ghost use Rattle.sides.specs.Parts.{Taken, cellsIn};
+ghost use Rattle.leaves.specs.Parts.{levelIn};
+ghost use Rattle.leaf_cells.specs.Parts.{Placed, AllPlaced, ListedIn, cellsOf, lowIn, nineKeys, keysIn, keysFrom, numberIn, Standing};
 
 // The keys of a leaf's centre and corners, from the high corner down: k is the key of the low one, u, v and w half the leaf's
 // width along x, y and z.
@@ -36,16 +40,30 @@ fn store_nine(work: &mut [u64], at: usize, k: u64, u: u64, v: u64, w: u64)
     work[at + 8] = k;
 }
 
+// Half the width of a listed leaf.
+fn half_of(leaf: u64) -> u64
+    requires { ⌜ Placed leaf ⌝ }
+    ensures { λ r. ⌜ (r ≡ 2 ^ levelIn leaf) × (r ≤ 32) ⌝ }
+{
+    along(1, (leaf / KEYS) as usize) as u64
+}
+
+// The key of its low corner: a coordinate is so many widths.
+fn low_of(leaf: u64, h: u64) -> u64
+    requires { ⌜ Placed leaf × (h ≡ 2 ^ levelIn leaf) ⌝ }
+    ensures { λ r. ⌜ (r ≡ lowIn leaf) × (r < mostKeys) ⌝ }
+{
+    leaf % KEYS * (2 * h)
+}
+
 // The nine keys of a listed leaf.
 fn store_keys(work: &mut [u64], at: usize, leaf: u64)
-    requires { ⌜ at + 9 ≤ length (now work) ⌝ }
-    requires { ⌜ Placed leaf ⌝ }
+    requires { ⌜ (at + 9 ≤ length (now work)) × Placed leaf ⌝ }
     ensures { λ _. ⌜ now (work .exit) ≡ sets (now (work .entry)) at (keysIn leaf) ⌝ }
 {
-    let m = (leaf / 549755813888) as usize;
-    let h = along(1, m) as u64;
-    let k = leaf % 549755813888 * (2 * h);
-    store_nine(work, at, k, h * 67108864, h * 8192, h);
+    let h = half_of(leaf);
+    let k = low_of(leaf, h);
+    store_nine(work, at, k, h * STRIDE_X, h * STRIDE_Y, h);
 }
 
 // The keys of all leaves, nine a leaf, into the front of the work; the list of leaves stands behind them, from `list` on.
@@ -66,57 +84,42 @@ pub fn leaf_keys(work: &mut [u64], list: usize, leaves: usize)
 // The cells of a listed leaf, each vertex by its number among the keys in the front of the work.
 fn leaf_cells(
     split: &[u8],
-    nx: usize,
-    ny: usize,
-    nz: usize,
-    levels: usize,
+    d: Roots,
     work: &[u64],
     vertices: usize,
     leaf: u64,
     out: &mut [u32],
     at: usize,
 ) -> usize
-    requires { ⌜ Taken (now split) nx ny nz levels ⌝ }
-    requires { ⌜ Lookup (now work) vertices ⌝ }
-    requires { ⌜ IsLeaf levels (pos nx ny nz) (read (pos nx ny nz) levels (now split)) (levelIn leaf) (placeIn leaf) ⌝ }
-    requires { ⌜ Room (now out) at (flat (numberIn (now work) vertices) (leafCells levels (pos nx ny nz) (read (pos nx ny nz) levels (now split)) (levelIn leaf) (placeIn leaf))) ⌝ }
-    ensures { λ r. ⌜ Stored (now (out .entry)) at (flat (numberIn (now (work .entry)) vertices) (leafCells levels (pos nx ny nz) (read (pos nx ny nz) levels (now (split .entry))) (levelIn leaf) (placeIn leaf))) r (now (out .exit)) ⌝ }
+    requires { ⌜ Taken (now split) d × ListedIn (now split) d leaf × Lookup (now work) vertices ⌝ }
+    requires { ⌜ Room (now out) at (flat (numberIn (now work) vertices) (cellsOf (now split) d leaf)) ⌝ }
+    ensures { λ r. ⌜ Stored (now (out .entry)) at (flat (numberIn (now (work .entry)) vertices) (cellsOf (now (split .entry)) d leaf)) r (now (out .exit)) ⌝ }
 {
-    let m = (leaf / 549755813888) as usize;
-    let i = (leaf / 67108864 % 8192) as usize;
-    let j = (leaf / 8192 % 8192) as usize;
-    let k = (leaf % 8192) as usize;
-    let f = sides_at(split, nx, ny, nz, levels, m, i, j, k);
-    let h = along(1, m) as u64;
-    let b = leaf % 549755813888 * (2 * h);
-    six_faces(work, vertices, out, at, f, b, h * 67108864, h * 8192, h)
+    let f = sides_at(split, d, unpack(leaf));
+    let h = half_of(leaf);
+    six_faces(work, vertices, out, at, f, low_of(leaf, h), h)
 }
 
 // The cells of all leaves, in the order of the list, which stands in the work from `list` on.
 pub fn store_cells(
     split: &[u8],
-    nx: usize,
-    ny: usize,
-    nz: usize,
-    levels: usize,
+    d: Roots,
     work: &[u64],
     vertices: usize,
     list: usize,
     leaves: usize,
     out: &mut [u32],
 )
-    requires { ⌜ Taken (now split) nx ny nz levels ⌝ }
-    requires { ⌜ Lookup (now work) vertices ⌝ }
-    requires { ⌜ Standing (now split) nx ny nz levels (now work) list leaves ⌝ }
-    requires { ⌜ length (now out) ≡ 4 * length (cells levels (pos nx ny nz) (read (pos nx ny nz) levels (now split))) ⌝ }
-    ensures { λ _. ⌜ now (out .exit) ≡ flat (numberIn (now (work .entry)) vertices) (cells levels (pos nx ny nz) (read (pos nx ny nz) levels (now (split .entry)))) ⌝ }
+    requires { ⌜ Taken (now split) d × Lookup (now work) vertices × Standing (now split) d (now work) list leaves ⌝ }
+    requires { ⌜ length (now out) ≡ 4 * length (cellsIn (now split) d) ⌝ }
+    ensures { λ _. ⌜ now (out .exit) ≡ flat (numberIn (now (work .entry)) vertices) (cellsIn (now (split .entry)) d) ⌝ }
 {
     let mut n: usize = 0;
     let mut at: usize = 0;
     while n < leaves {
         let i = list + n;
         let leaf = work[i];
-        at = leaf_cells(split, nx, ny, nz, levels, work, vertices, leaf, out, at);
+        at = leaf_cells(split, d, work, vertices, leaf, out, at);
         n += 1;
     }
 }

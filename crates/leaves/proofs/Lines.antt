@@ -7,13 +7,14 @@ use native.Mathlib.Omega.{arith}
 use native.Mathlib.Nat.{suc-add, suc-mul, zero-add, zero-mul, mul-comm, pow-succ', pow-le-pow-right, mul-le-mul}
 use native.Mathlib.Numerals.{sub-one}
 use lib.ListN.{length, length-append}
-use Rattle.space.specs.Space.{Axis, ax, ay, az, Pos, pos}
+use Rattle.space.specs.Space.{ax, ay, az, Pos, pos}
+use Rattle.space.proofs.Space.{on-all}
 use Rattle.octants.specs.Oct.{Tree}
 use Rattle.space.specs.Levels.{size}
 use Rattle.octants.specs.Table.{slot, place}
 use Rattle.octants.proofs.TableLaws.{place-slot}
 use Rattle.octree_cells.specs.Cells.{down, boxDown, below, child, two, overLeaves}
-use Rattle.leaves.specs.Leaves.{kids}
+use Rattle.leaves.specs.Parts.{kids}
 
 module _ {A : Type 0} where
   pub down-cong : (n : ℕ) (f g : ℕ → List A) → ((i : ℕ) → i < n → f i ≡ g i) → down n f ≡ down n g
@@ -53,15 +54,10 @@ module _ {A : Type 0} where
       g : ℕ → List A
       g r = f (place d r)
 
-      inside : (i j k : ℕ) → i < d ax → j < d ay → k < d az → (a : Axis) → pos i j k a < d a
-      inside i j k p q r ax = p
-      inside i j k p q r ay = q
-      inside i j k p q r az = r
-
       at : (i j k : ℕ) → i < d ax → j < d ay → k < d az → f (place d (k * (d ax * d ay) + (j * d ax + i))) ≡ f (pos i j k)
       at i j k p q r =
           let e : k * (d ax * d ay) + (j * d ax + i) ≡ slot d (pos i j k) = omega arith in
-          ap (λ (n : ℕ). f (place d n)) e ∙ ap f (place-slot d (pos i j k) (inside i j k p q r))
+          ap (λ (n : ℕ). f (place d n)) e ∙ ap f (place-slot d (pos i j k) (on-all _ p q r))
 
   pub down-none : (n : ℕ) (f : ℕ → List A) → n ≡ 0 → down n f ≡ []
   unfolding down

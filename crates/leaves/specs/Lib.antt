@@ -1,1 +1,2 @@
-pub mod Leaves
+-- The list of leaves, and what a walk over them leaves behind.
+pub mod Parts

@@ -1,33 +1,23 @@
 -- Something holds of what the leaves give exactly when it holds of what one leaf gives.
 use mathlib.Core.Path.{_≡_, refl, ap, sym, _∙_, subst, fun-ext}
-use mathlib.Core.Bool.{Bool, true, false, cond, not, _&&_, _||_}
+use mathlib.Core.Bool.{Bool, true, false, cond, _||_}
 use mathlib.Core.List.{List, [], _++_}
 use mathlib.Core.Logic.{_⊎_, ⊎-elim}
-use Prim.Native.Nat.{ℕ, zero, suc, _+_, _*_, _-_, _%_, _^_, _≤_, _<_}
+use Prim.Native.Nat.{ℕ, zero, suc, _+_, _-_, _%_, _≤_, _<_}
 use native.Mathlib.Omega.{arith}
 use native.Mathlib.Decide.{decLe}
 use Rattle.space.specs.Space.{Axis, ax, ay, az, Pos, pos, Inside}
 use Rattle.octants.specs.Oct.{Tree, parent, In}
-use Rattle.octants.proofs.Axis1.{child-in}
-use Rattle.lists.proofs.Bools.{and-both, both-and, or-cases, or-left, or-right, bool-cases, clash}
-use Rattle.space.proofs.Space.{pos-eta}
+use Rattle.lists.proofs.Bools.{and-both, or-cases, or-left, or-right, bool-cases, clash}
+use Rattle.space.proofs.Space.{pos-eta, on-all}
 use Rattle.octants.proofs.Least.{parent-inside}
 use Rattle.octree_cells.specs.Cells.{down, boxDown, below, two, child, overLeaves}
 use Rattle.octree_cells.specs.Leaf.{opened}
-use Rattle.octree_cells.proofs.Opened.{own-opened, opened-parent, parent-child, two-lt}
-use Rattle.octree_cells.specs.Leaf.{IsLeaf}
-
-leaf-whole : (l : ℕ) (d : Pos) (t : Tree) (m : ℕ) (x : Pos) → IsLeaf l d t m x → (opened t m x (l - m) ≡ true) × (t m x ≡ false)
-leaf-whole l d t m x h =
-    let r = and-both (opened t m x (l - m)) (not (t m x)) (sym (own-opened t m x (l - m)) ∙ h .owns) in
-    (r .0, no (t m x) (r .1))
-  where
-    no : (b : Bool) → not b ≡ true → b ≡ false
-    no true e = clash e refl
-    no false e = refl
+use Rattle.octree_cells.proofs.Opened.{opened-parent, root-reached, reached-root, child-reached, leaf-reached, reached-leaf}
+use Rattle.octree_cells.specs.Leaf.{IsLeaf, Reached}
 
 pub whole-of : (l : ℕ) (d : Pos) (t : Tree) (m : ℕ) (x : Pos) → IsLeaf l d t m x → t m x ≡ false
-whole-of l d t m x h = leaf-whole l d t m x h .1
+whole-of l d t m x h = reached-leaf l d t h .1
 
 module _ {A : Type 0} (h : List A → Bool) (nil : h [] ≡ false) (app : (a b : List A) → h (a ++ b) ≡ h a || h b) where
   down-some : (n : ℕ) (f : ℕ → List A) → h (down n f) ≡ true → (i : ℕ) × (i < n) × (h (f i) ≡ true)
@@ -53,12 +43,7 @@ module _ {A : Type 0} (h : List A → Bool) (nil : h [] ≡ false) (app : (a b :
       let rk = down-some (n az) (λ k. down (n ay) (λ j. down (n ax) (λ i. f (pos i j k)))) s in
       let rj = down-some (n ay) (λ j. down (n ax) (λ i. f (pos i j (rk .0)))) (rk .2) in
       let ri = down-some (n ax) (λ i. f (pos i (rj .0) (rk .0))) (rj .2) in
-      (pos (ri .0) (rj .0) (rk .0), inside (ri .0) (rj .0) (rk .0) (ri .1) (rj .1) (rk .1), ri .2)
-    where
-      inside : (i j k : ℕ) → i < n ax → j < n ay → k < n az → Inside n (pos i j k)
-      inside i j k p q r ax = p
-      inside i j k p q r ay = q
-      inside i j k p q r az = r
+      (pos (ri .0) (rj .0) (rk .0), on-all _ (ri .1) (rj .1) (rk .1), ri .2)
 
   pub some-box : (n : Pos) (f : Pos → List A) (x : Pos) → Inside n x → h (f x) ≡ true → h (boxDown n f) ≡ true
   unfolding boxDown
@@ -74,35 +59,19 @@ module _ {A : Type 0} (h : List A → Bool) (nil : h [] ≡ false) (app : (a b :
     at-leaf zero x e = refl
     at-leaf (suc m) x e = sym (ap (λ (b : Bool). h (cond b (boxDown two (λ o. below t f m (child x o))) (f (suc m) x))) e)
 
-    child-inside : (m : ℕ) (x o : Pos) → m < l → In l d (suc m) x → Inside two o → In l d m (child x o)
-    child-inside m x o p q r ax = child-in l (d ax) m (x ax) (o ax) p (r ax) (q ax)
-    child-inside m x o p q r ay = child-in l (d ay) m (x ay) (o ay) p (r ay) (q ay)
-    child-inside m x o p q r az = child-in l (d az) m (x az) (o az) p (r az) (q az)
-
-    below-some : ((x : Pos) → t 0 x ≡ false) → (m : ℕ) (x : Pos) → m ≤ l → In l d m x → opened t m x (l - m) ≡ true → h (below t f m x) ≡ true
+    below-some : ((x : Pos) → t 0 x ≡ false) → (m : ℕ) (x : Pos) → Reached l d t m x → h (below t f m x) ≡ true
         → (n : ℕ) × (y : Pos) × (IsLeaf l d t n y) × (h (f n y) ≡ true)
     unfolding below
-    below-some fin zero x p q o s =
-        (0, x, record { fits = p; inside = q; owns = own-opened t 0 x (l - 0) ∙ both-and _ _ o (ap not (fin x)) }, s)
-    below-some fin (suc m) x p q o s = ⊎-elim
+    below-some fin zero x r s = (0, x, leaf-reached l d t r (fin x), s)
+    below-some fin (suc m) x r s = ⊎-elim
         (λ e.
         let c = box-some two (λ o. below t f m (child x o)) (sym (ap (λ (b : Bool). h (cond b (boxDown two (λ o. below t f m (child x o))) (f (suc m) x))) e) ∙ s) in
-        let z : l - m ≡ suc (l - suc m) = omega arith in
-        let g : opened t m (child x (c .0)) (l - m) ≡ true
-        = ap (opened t m (child x (c .0))) z ∙ opened-parent t m (child x (c .0)) (l - suc m)
-        ∙ ap (λ (y : Pos). t (suc m) y && opened t (suc m) y (l - suc m)) (parent-child x (c .0) (two-lt (c .0) (c .1)))
-        ∙ both-and (t (suc m) x) (opened t (suc m) x (l - suc m)) e o in
-        below-some fin m (child x (c .0)) (omega arith) (child-inside m x (c .0) p q (c .1)) g (c .2))
-        (λ e. (suc m, x, record { fits = p; inside = q; owns = own-opened t (suc m) x (l - suc m) ∙ both-and _ _ o (ap not e) }, at-leaf (suc m) x e ∙ s))
+        below-some fin m (child x (c .0)) (child-reached l d t r e (c .0) (c .1)) (c .2))
+        (λ e. (suc m, x, leaf-reached l d t r e, at-leaf (suc m) x e ∙ s))
         (bool-cases (t (suc m) x))
 
     pub leaves-some : ((x : Pos) → t 0 x ≡ false) → h (overLeaves l d t f) ≡ true → (n : ℕ) × (y : Pos) × (IsLeaf l d t n y) × (h (f n y) ≡ true)
-    unfolding opened
-    leaves-some fin s =
-        let r = box-some d (below t f l) s in
-        let e : l - l ≡ 0 = omega arith in
-        below-some fin l (r .0) (omega arith) (λ a. let g : d a * 2 ^ (l - l) ≡ d a = ap (λ (k : ℕ). d a * 2 ^ k) e ∙ omega arith in subst (λ (n : ℕ). r .0 a < n) (sym g) (r .1 a))
-        (ap (opened t l (r .0)) e) (r .2)
+    leaves-some fin s = let r = box-some d (below t f l) s in below-some fin l (r .0) (root-reached l d t (r .0) (r .1)) (r .2)
 
     -- up to the root
     rise : (k m : ℕ) (z : Pos) → m + k ≡ l → In l d m z → opened t m z k ≡ true → h (below t f m z) ≡ true → h (overLeaves l d t f) ≡ true
@@ -110,8 +79,7 @@ module _ {A : Type 0} (h : List A → Bool) (nil : h [] ≡ false) (app : (a b :
     rise zero m z e p o s =
         let g : m ≡ l = omega arith in
         let q = subst (λ (n : ℕ). (In l d n z) × (h (below t f n z) ≡ true)) g (p, s) in
-        let y : l - l ≡ 0 = omega arith in
-        some-box d (below t f l) z (λ a. let w : d a * 2 ^ (l - l) ≡ d a = ap (λ (k : ℕ). d a * 2 ^ k) y ∙ omega arith in subst (λ (n : ℕ). z a < n) w (q .0 a)) (q .1)
+        some-box d (below t f l) z (reached-root l d t z (q .0)) (q .1)
     rise (suc k) m z e p o s =
         let r = and-both (t (suc m) (parent z)) (opened t (suc m) (parent z) k) (sym (opened-parent t m z k) ∙ o) in
         let c : Pos = pos (z ax % 2) (z ay % 2) (z az % 2) in
@@ -134,5 +102,5 @@ module _ {A : Type 0} (h : List A → Bool) (nil : h [] ≡ false) (app : (a b :
 
     pub some-leaves : (n : ℕ) (y : Pos) → IsLeaf l d t n y → h (f n y) ≡ true → h (overLeaves l d t f) ≡ true
     some-leaves n y p s =
-        let q = leaf-whole l d t n y p in
-        rise (l - n) n y (omega (arith, p .fits)) (p .inside) (q .0) (sym (at-leaf n y (q .1)) ∙ s)
+        let q = reached-leaf l d t p in
+        rise (l - n) n y (omega (arith, p .fits)) (p .inside) (q .0 .under) (sym (at-leaf n y (q .1)) ∙ s)

@@ -15,10 +15,10 @@ use Rattle.octants.specs.Oct.{Tree, counts, count, width, parent, In, Octree, C
 use Rattle.octants.proofs.Axis1.{Close, close-meet, child-in, child-parent}
 use Rattle.lists.proofs.Bools.{and-both, both-and, bool-cases, bool-ext, clash}
 use Rattle.lists.proofs.Any.{any-some, some-any}
-use Rattle.space.proofs.Space.{pos-eta}
+use Rattle.space.proofs.Space.{pos-eta, frame-all, frame-eta}
 use Rattle.octants.proofs.Near.{within-in, in-within}
 use Rattle.octants.proofs.Least.{closed-octree, parent-inside}
-use Rattle.octree_cells.specs.Cells.{corner, middle, end, none, leaf, descent, ofLevel, isLeaf, atMost, leafAt, leafAround, finer}
+use Rattle.octree_cells.specs.Cells.{corner, middle, end, none, leaf, descent, ofLevel, isLeaf, atMost, leafAt, leafAround, finer, stepped}
 use Rattle.octree_cells.specs.Leaf.{own, opened}
 use Rattle.octree_cells.proofs.Opened.{own-opened, opened-parent}
 
@@ -211,26 +211,10 @@ pick-holds (suc c) s = (step-holds s .2, step-holds s .3)
 pick-some : {i j p : ℕ} (y : ℕ) → Step i j p → 2 * y ≤ p → p ≤ 2 * y + 2 → (c : ℕ) × (c < 2) × (pick c i j ≡ y)
 pick-some y s h g = ⊎-elim (λ e. (0, omega arith, sym e)) (λ e. (1, omega arith, sym e)) (step-cases y s h g)
 
-frame-all : (R : ℕ → ℕ → Type 0) (a : Axis) (u v w p q r : ℕ) → R u p → R v q → R w r → (b : Axis) → R (frame a u v w b) (frame a p q r b)
-frame-all R ax u v w p q r x y z ax = x
-frame-all R ax u v w p q r x y z ay = y
-frame-all R ax u v w p q r x y z az = z
-frame-all R ay u v w p q r x y z ax = z
-frame-all R ay u v w p q r x y z ay = x
-frame-all R ay u v w p q r x y z az = y
-frame-all R az u v w p q r x y z ax = y
-frame-all R az u v w p q r x y z ay = z
-frame-all R az u v w p q r x y z az = x
-
 frame-read : (R : ℕ → ℕ → Type 0) (a : Axis) (y : Pos) (p q r : ℕ) → ((b : Axis) → R (y b) (frame a p q r b)) → R (y a) p × R (y (next a)) q × R (y (next (next a))) r
 frame-read R ax y p q r h = (h ax, h ay, h az)
 frame-read R ay y p q r h = (h ay, h az, h ax)
 frame-read R az y p q r h = (h az, h ax, h ay)
-
-frame-eta : (a : Axis) (y : Pos) → frame a (y a) (y (next a)) (y (next (next a))) ≡ y
-frame-eta ax y = pos-eta y
-frame-eta ay y = pos-eta y
-frame-eta az y = pos-eta y
 
 abbrev Hold : ℕ → ℕ → Type 0
 Hold y b = (2 * y ≤ b) × (b ≤ 2 * y + 2)
@@ -307,11 +291,7 @@ between-frame ax i j k e f g e' f' g' = sym (pos-eta (between (frame ax i j k) (
 between-frame ay i j k e f g e' f' g' = sym (pos-eta (between (frame ay i j k) (frame ay e f g) (frame ay e' f' g')))
 between-frame az i j k e f g e' f' g' = sym (pos-eta (between (frame az i j k) (frame az e f g) (frame az e' f' g')))
 
-abbrev pub stepTo : Bool → ℕ → ℕ
-stepTo true i = i + 1
-stepTo false i = i - 1
-
-step-to : (s : Bool) (i : ℕ) → Step i (stepTo s i) (2 * i + end s + end s)
+step-to : (s : Bool) (i : ℕ) → Step i (stepped s i) (2 * i + end s + end s)
 step-to true i = let e : 2 * i + 2 ≡ 2 * i + 1 + 1 = omega arith in subst (Step i (i + 1)) e high
 step-to false i = let e : 2 * i ≡ 2 * i + 0 + 0 = omega arith in subst (Step i (i - 1)) e low
 
@@ -326,21 +306,21 @@ module _ (l : ℕ) (d : Pos) (t : Tree) (c : Closed l d t) (n : ℕ) (h : n < l)
   -- an edge along the next axis, on side s of axis a and side r of the last
   pub edge-next : (s r : Bool) (f f' : ℕ) → f + f' ≡ 1
       → finer l d t (suc n) (middle (corner (suc n) (frame a i j k) (frame a (end s) f (end r))) (corner (suc n) (frame a i j k) (frame a (end s) f' (end r))))
-      ≡ at3 (stepTo s i) j k || at3 i j (stepTo r k) || at3 (stepTo s i) j (stepTo r k)
+      ≡ at3 (stepped s i) j k || at3 i j (stepped r k) || at3 (stepped s i) j (stepped r k)
   unfolding eight any
   edge-next s r f f' g =
       finer-mid l d t n (frame a i j k) (frame a (end s) f (end r)) (frame a (end s) f' (end r))
       ∙ ap (leafAround l d t n) (between-frame a i j k (end s) f (end r) (end s) f' (end r))
-      ∙ around-eight l d t n a i (stepTo s i) j j k (stepTo r k) _ _ _ c h x whole (step-to s i) (step-still j f f' g) (step-to r k)
-      ∙ or-still-1 (at3 i j k) (at3 (stepTo s i) j k) (at3 i j (stepTo r k)) (at3 (stepTo s i) j (stepTo r k)) (not-split l d t (suc n) (frame a i j k) whole)
+      ∙ around-eight l d t n a i (stepped s i) j j k (stepped r k) _ _ _ c h x whole (step-to s i) (step-still j f f' g) (step-to r k)
+      ∙ or-still-1 (at3 i j k) (at3 (stepped s i) j k) (at3 i j (stepped r k)) (at3 (stepped s i) j (stepped r k)) (not-split l d t (suc n) (frame a i j k) whole)
 
   -- an edge along the last axis, on side s of axis a and side r of the next
   pub edge-last : (s r : Bool) (f f' : ℕ) → f + f' ≡ 1
       → finer l d t (suc n) (middle (corner (suc n) (frame a i j k) (frame a (end s) (end r) f)) (corner (suc n) (frame a i j k) (frame a (end s) (end r) f')))
-      ≡ at3 (stepTo s i) j k || at3 i (stepTo r j) k || at3 (stepTo s i) (stepTo r j) k
+      ≡ at3 (stepped s i) j k || at3 i (stepped r j) k || at3 (stepped s i) (stepped r j) k
   unfolding eight any
   edge-last s r f f' g =
       finer-mid l d t n (frame a i j k) (frame a (end s) (end r) f) (frame a (end s) (end r) f')
       ∙ ap (leafAround l d t n) (between-frame a i j k (end s) (end r) f (end s) (end r) f')
-      ∙ around-eight l d t n a i (stepTo s i) j (stepTo r j) k k _ _ _ c h x whole (step-to s i) (step-to r j) (step-still k f f' g)
-      ∙ or-still-2 (at3 i j k) (at3 (stepTo s i) j k) (at3 i (stepTo r j) k) (at3 (stepTo s i) (stepTo r j) k) (not-split l d t (suc n) (frame a i j k) whole)
+      ∙ around-eight l d t n a i (stepped s i) j (stepped r j) k k _ _ _ c h x whole (step-to s i) (step-to r j) (step-still k f f' g)
+      ∙ or-still-2 (at3 i j k) (at3 (stepped s i) j k) (at3 i (stepped r j) k) (at3 (stepped s i) (stepped r j) k) (not-split l d t (suc n) (frame a i j k) whole)

@@ -22,6 +22,12 @@ pub record IsLeaf (l : ℕ) (d : Pos) (t : Tree) (m : ℕ) (x : Pos) : Type 0 wh
   pub inside : In l d m x
   pub owns : own t m x (l - m) ≡ true
 
+-- an octant that a walk from the roots comes to: under split ones up to its root
+pub record Reached (l : ℕ) (d : Pos) (t : Tree) (m : ℕ) (x : Pos) : Type 0 where
+  pub fits : m ≤ l
+  pub inside : In l d m x
+  pub under : opened t m x (l - m) ≡ true
+
 -- the corner f of an octant at j is the centre of its parent
 abbrev pub central : ℕ → ℕ → Bool
 central f j = eqb (j % 2 + f) 1

@@ -8,16 +8,17 @@ use lib.Dec.{ltb}
 use borrow.Author.Tests.{eq-eqb, ne-eqb}
 use Rattle.space.specs.Space.{Axis, Pos, pos}
 use Rattle.octants.specs.Oct.{hit}
-use Rattle.octants.specs.Table.{at}
 use Rattle.octree_cells.specs.Cells.{reaches, stepped}
 use Rattle.octree_cells.specs.Leaf.{turnAt, central}
-use Rattle.sides.specs.declared.Level.{Level}
+use Rattle.octree.specs.declared.Level.{Level}
+use Rattle.octree.specs.Parts.{countsOf, inLevel}
+use Rattle.sides.specs.declared.Around.{Around}
 use Rattle.sides.specs.declared.Beside.the-variants.{Split, Equal, Given, Coarser, Border}
-use Rattle.sides.specs.Reading.{axisOf, countsOf, splitIn, eitherIn, equalIn, besideIn}
+use Rattle.sides.specs.Parts.{axisOf, splitIn, eitherIn, equalIn, besideIn}
 
 module _ (s : List ℕ) (k : Level) (n u v w : ℕ) where
   abbrev there : Pos → Bool
-  there p = hit (countsOf k) (at s (k .start) (countsOf k)) p
+  there p = hit (countsOf k) (inLevel s k) p
 
   pub in-x : n ≡ 0 → there (pos u v w) ≡ splitIn s k (axisOf n) u v w
   unfolding splitIn
@@ -28,18 +29,18 @@ module _ (s : List ℕ) (k : Level) (n u v w : ℕ) where
   in-y h = rw h
 
 pub in-z : (s : List ℕ) (k : Level) (n u v w : ℕ) → (n ≡ 0 → ⊥) → (n ≡ 1 → ⊥)
-    → hit (countsOf k) (at s (k .start) (countsOf k)) (pos v w u) ≡ splitIn s k (axisOf n) u v w
+    → hit (countsOf k) (inLevel s k) (pos v w u) ≡ splitIn s k (axisOf n) u v w
 unfolding splitIn
 in-z s k zero u v w h g = absurd (h refl)
 in-z s k (suc zero) u v w h g = absurd (g refl)
 in-z s k (suc (suc n)) u v w h g = refl
 
-module _ (s : List ℕ) (k : Level) (a : Axis) (u y v w : ℕ) where
-  pub either-first : splitIn s k a u v w ≡ true → true ≡ eitherIn s k a u y v w
+module _ (s : List ℕ) (k : Level) (a : Axis) (u v w : ℕ) where
+  pub either-first : splitIn s k a u v w ≡ true → true ≡ eitherIn s k a u v w
   unfolding eitherIn
   either-first h = rw h
 
-  pub either-second : splitIn s k a u v w ≡ false → splitIn s k a y v w ≡ eitherIn s k a u y v w
+  pub either-second : splitIn s k a u v w ≡ false → splitIn s k a (u + 1) v w ≡ eitherIn s k a u v w
   unfolding eitherIn
   either-second h = rw h
 
@@ -84,32 +85,32 @@ equal-low s k a u v w high h = rw h
 
 pub equal-high : (s : List ℕ) (k : Level) (a : Axis) (u v w : ℕ) (high : Bool) (e0 e1 e2 e3 : Bool) (v′ w′ : ℕ) → high ≡ true
     → w′ ≡ stepped false w → v′ ≡ stepped false v
-    → e0 ≡ eitherIn s k a u (u + 1) v w′ → e1 ≡ eitherIn s k a u (u + 1) (v + 1) w
-    → e2 ≡ eitherIn s k a u (u + 1) v (w + 1) → e3 ≡ eitherIn s k a u (u + 1) v′ w
+    → e0 ≡ eitherIn s k a u v w′ → e1 ≡ eitherIn s k a u (v + 1) w
+    → e2 ≡ eitherIn s k a u v (w + 1) → e3 ≡ eitherIn s k a u v′ w
     → Equal (record { e0 = e0; e1 = e1; e2 = e2; e3 = e3 }) ≡ equalIn s k a u v w high
 unfolding equalIn
 equal-high s k a u v w high e0 e1 e2 e3 v′ w′ h f g p0 p1 p2 p3 = rw (h, p0, p1, p2, p3, f, g)
 
-module _ (s : List ℕ) (here above : Level) (root : Bool) (n : ℕ) (a : Axis) (u v w : ℕ) (high : Bool) where
-  pub side-border : reaches n high u ≡ false → Border ≡ besideIn s here above root n a u v w high
+module _ (s : List ℕ) (l : Around) (n : ℕ) (a : Axis) (u v w : ℕ) (high : Bool) where
+  pub side-border : reaches n high u ≡ false → Border ≡ besideIn s l n a u v w high
   unfolding besideIn
   side-border h = rw h
 
   module _ (y : ℕ) (e : y ≡ stepped high u) (h : reaches n high u ≡ true) where
-    pub side-split : splitIn s here a y v w ≡ true → Split ≡ besideIn s here above root n a u v w high
+    pub side-split : splitIn s (l .here) a y v w ≡ true → Split ≡ besideIn s l n a u v w high
     unfolding besideIn
     side-split f = rw (h, ← e, f)
 
-    pub side-root : splitIn s here a y v w ≡ false → root ≡ true → equalIn s here a u v w high ≡ besideIn s here above root n a u v w high
+    pub side-root : splitIn s (l .here) a y v w ≡ false → l .root ≡ true → equalIn s (l .here) a u v w high ≡ besideIn s l n a u v w high
     unfolding besideIn
     side-root f g = rw (h, ← e, f, g)
 
-    pub side-equal : splitIn s here a y v w ≡ false → root ≡ false → splitIn s above a (y / 2) (v / 2) (w / 2) ≡ true
-        → equalIn s here a u v w high ≡ besideIn s here above root n a u v w high
+    pub side-equal : splitIn s (l .here) a y v w ≡ false → l .root ≡ false → splitIn s (l .above) a (y / 2) (v / 2) (w / 2) ≡ true
+        → equalIn s (l .here) a u v w high ≡ besideIn s l n a u v w high
     unfolding besideIn
     side-equal f g k = rw (h, ← e, f, g, k)
 
-    pub side-coarser : (r : ℕ) → splitIn s here a y v w ≡ false → root ≡ false → splitIn s above a (y / 2) (v / 2) (w / 2) ≡ false
-        → r ≡ turnAt v w → Coarser r ≡ besideIn s here above root n a u v w high
+    pub side-coarser : (r : ℕ) → splitIn s (l .here) a y v w ≡ false → l .root ≡ false → splitIn s (l .above) a (y / 2) (v / 2) (w / 2) ≡ false
+        → r ≡ turnAt v w → Coarser r ≡ besideIn s l n a u v w high
     unfolding besideIn
     side-coarser r f g k z = rw (h, ← e, f, g, k, ← z)

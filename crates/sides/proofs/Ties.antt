@@ -1,6 +1,6 @@
 -- What is read beside a leaf of a graded table is what the definition of the cells says. Assumes nothing.
 use mathlib.Core.Path.{_≡_, refl, ap, ap₂, sym, _∙_, subst}
-use mathlib.Core.Bool.{Bool, true, false, _&&_, _||_}
+use mathlib.Core.Bool.{Bool, true, false, _&&_, _||_, and-false}
 use mathlib.Core.List.{List}
 use Prim.Native.Nat.{ℕ, zero, suc, _+_, _-_, _/_, _≤_, _<_}
 use native.Mathlib.Omega.{arith}
@@ -8,19 +8,17 @@ use native.Mathlib.Decide.{decLe}
 use lib.Dec.{eqb}
 use lib.ListN.{length, length-append}
 use borrow.Author.Tests.{eq-eqb, le-ltb}
-use Rattle.space.specs.Space.{Axis, ax, ay, az, Pos, pos, next, frame}
+use Rattle.space.specs.Space.{Axis, ax, ay, az, Pos, next, frame}
 use Rattle.octants.specs.Oct.{Tree, counts, parent, In, Closed, within}
-use Rattle.lists.proofs.Bools.{clash}
-use Rattle.space.proofs.Space.{pos-eta}
+use Rattle.lists.proofs.Bools.{clash, neither}
+use Rattle.space.proofs.Space.{pos-eta, frame-eta}
 use Rattle.octants.proofs.Near.{in-within}
 use Rattle.octants.proofs.Least.{parent-inside}
 use Rattle.octants.specs.Table.{read}
-use Rattle.space.proofs.Levels.{off-suc}
-use Rattle.octants.proofs.TableLaws.{off-le}
 use Rattle.octree_cells.specs.Cells.{corner, middle, end, side, Side, split, equal, coarser, border, reaches, stepped, beside, face, Face, finer, cellsTo, faceCells, leafCells}
 use Rattle.octree_cells.specs.Leaf.{IsLeaf}
 use Rattle.octree_cells.proofs.LeafSome.{whole-of}
-use Rattle.octree_cells.proofs.Local.{splitAt, stepTo, edge-next, edge-last}
+use Rattle.octree_cells.proofs.Local.{splitAt, edge-next, edge-last}
 use Rattle.octree_cells.proofs.Sides.{beside-in}
 use Rattle.octree_cells.specs.Leaf.{turnAt}
 use Rattle.octree_cells.proofs.LocalSide.{localSide, side-local, turn-local, under-split}
@@ -29,35 +27,15 @@ use Rattle.octree_cells.proofs.Vertices.{side-is-split}
 use Rattle.sides.specs.declared.Beside.{Beside}
 use Rattle.sides.specs.declared.Edges.{Edges}
 use Rattle.sides.specs.declared.Beside.the-variants.{Split, Equal, Coarser, Border}
-use Rattle.sides.specs.Reading.{Held, splitIn, eitherIn, equalIn, besideIn, pickSide, facing, sidesIn, levelOf, givenAt, givenBy}
-use Rattle.sides.specs.Told.{told, besideAt, sidesAt, Taken}
-
-and-none : (b : Bool) → b && false ≡ false
-and-none true = refl
-and-none false = refl
+use Rattle.octree.specs.Parts.{levelAt}
+use Rattle.sides.specs.Parts.{told, besideAt, six, sidesAt, splitIn, eitherIn, equalIn, besideIn, pickSide, facing, levelOf, aroundOf, givenAt, givenBy}
 
 -- a level read is the tree's
 pub split-read : (d : Pos) (l : ℕ) (s : List ℕ) (m : ℕ) (a : Axis) (u v w : ℕ)
     → splitIn s (levelOf d l m) a u v w ≡ splitAt l d (read d l s) m (frame a u v w)
-unfolding splitIn read levelOf
-split-read d l s zero a u v w = rw (le-ltb (frame a u v w ax) 0 (omega arith)) (sym (and-none (within (counts l d zero) (frame a u v w))))
+unfolding splitIn read levelOf levelAt
+split-read d l s zero a u v w = rw (le-ltb (frame a u v w ax) 0 (omega arith)) (sym (and-false (within (counts l d zero) (frame a u v w))))
 split-read d l s (suc m) a u v w = refl
-
--- the table holds every level up to the roots, and the roots' once more
-pub level-held : (s : List ℕ) (nx ny nz l m : ℕ) → Taken s nx ny nz l → m ≤ suc l → Held s (levelOf (pos nx ny nz) l m)
-unfolding levelOf
-level-held s nx ny nz l zero k h = omega arith
-level-held s nx ny nz l (suc m) k h =
-    let d : Pos = pos nx ny nz in
-    let e = off-suc d (l - suc m) in
-    let g = off-le d (suc (l - suc m)) l (omega (arith, k .some)) in
-    omega (arith, k .whole)
-
--- an octant by its coordinates from axis a on
-frame-eta : (a : Axis) (y : Pos) → frame a (y a) (y (next a)) (y (next (next a))) ≡ y
-frame-eta ax y = pos-eta y
-frame-eta ay y = pos-eta y
-frame-eta az y = pos-eta y
 
 beside-frame : (a : Axis) (s : Bool) (x : Pos) → frame a (stepped s (x a)) (x (next a)) (x (next (next a))) ≡ beside a s x
 beside-frame ax s x = refl
@@ -107,10 +85,6 @@ module _ (d : Pos) (l : ℕ) (s : List ℕ) (c : Closed l d (read d l s)) (m : �
           ap (λ (b : Bool). b || q) e ∙ sym (ap (λ (b : Bool). b || t (suc m) (parent (beside a high x))) e)
       go (no h) = ap (λ (b : Bool). eqb m l || b) (f (omega arith))
 
-  or-none : (u v : Bool) → u || v ≡ false → (u ≡ false) × (v ≡ false)
-  or-none true v e = clash refl e
-  or-none false v e = (refl, e)
-
   below : Dec (l ≤ m) → eqb m l ≡ false → m < l
   below (yes h) e = clash (eq-eqb m l (omega (arith, leaf .fits))) e
   below (no h) e = omega arith
@@ -124,7 +98,7 @@ module _ (d : Pos) (l : ℕ) (s : List ℕ) (c : Closed l d (read d l s)) (m : �
   told-local true true p E er ep eq = refl
   told-local true false true E er ep eq = eq refl refl
   told-local true false false E er ep eq =
-      let q = or-none (eqb m l) (t (suc m) (parent (beside a high x))) ep in
+      let q = neither (eqb m l) (t (suc m) (parent (beside a high x))) ep in
       let h : m < l = below (decLe l m) (q .0) in
       ap Coarser (sym (turn-local t m x a high (counts l d m a) er (under-split l d t c m x a high leaf h) (q .1)))
 
@@ -132,16 +106,16 @@ module _ (d : Pos) (l : ℕ) (s : List ℕ) (c : Closed l d (read d l s)) (m : �
   spare : (p q r : Bool) → p ≡ false → p || q || r ≡ q || r
   spare p q r e = rw e
 
-  either-read : (v w : ℕ) → eitherIn s (levelOf d l m) a i (i + 1) v w ≡ splitAt l d t m (frame a i v w) || splitAt l d t m (frame a (i + 1) v w)
+  either-read : (v w : ℕ) → eitherIn s (levelOf d l m) a i v w ≡ splitAt l d t m (frame a i v w) || splitAt l d t m (frame a (i + 1) v w)
   unfolding eitherIn
   either-read v w = ap₂ (λ (p q : Bool). p || q) (split-read d l s m a i v w) (split-read d l s m a (i + 1) v w)
 
-  no-bytes : (v w : ℕ) → m ≡ 0 → eitherIn s (levelOf d l m) a i (i + 1) v w ≡ false
+  no-bytes : (v w : ℕ) → m ≡ 0 → eitherIn s (levelOf d l m) a i v w ≡ false
   no-bytes v w e =
       either-read v w
       ∙ ap (λ (n : ℕ). splitAt l d t n (frame a i v w) || splitAt l d t n (frame a (i + 1) v w)) e
       ∙ ap₂ (λ (p q : Bool). (within (counts l d 0) (frame a i v w) && p) || (within (counts l d 0) (frame a (i + 1) v w) && q)) (c .finest _) (c .finest _)
-      ∙ ap₂ (λ (p q : Bool). p || q) (and-none (within (counts l d 0) (frame a i v w))) (and-none (within (counts l d 0) (frame a (i + 1) v w)))
+      ∙ ap₂ (λ (p q : Bool). p || q) (and-false (within (counts l d 0) (frame a i v w))) (and-false (within (counts l d 0) (frame a (i + 1) v w)))
 
 -- the midpoints of the face's edges, from a neighbour of equal level, by the two octants beside each
 module _ (d : Pos) (l : ℕ) (s : List ℕ) (c : Closed l d (read d l s)) (x : Pos) (a : Axis) where
@@ -167,14 +141,14 @@ module _ (d : Pos) (l : ℕ) (s : List ℕ) (c : Closed l d (read d l s)) (x : P
 
     -- along the next axis, and along the last
     along-next : (b r : Bool) (f f′ : ℕ) → f + f′ ≡ 1 → fineAt (frame a (end b) f (end r)) (frame a (end b) f′ (end r))
-        ≡ at3 (stepTo b (x a)) (x (next a)) (x (next (next a))) || at3 (x a) (x (next a)) (stepTo r (x (next (next a))))
-        || at3 (stepTo b (x a)) (x (next a)) (stepTo r (x (next (next a))))
+        ≡ at3 (stepped b (x a)) (x (next a)) (x (next (next a))) || at3 (x a) (x (next a)) (stepped r (x (next (next a))))
+        || at3 (stepped b (x a)) (x (next a)) (stepped r (x (next (next a))))
     along-next b r f f′ e =
         moved _ _ ∙ edge-next l d (read d l s) c n (leaf .fits) a (x a) (x (next a)) (x (next (next a))) inside unsplit b r f f′ e
 
     along-last : (b r : Bool) (f f′ : ℕ) → f + f′ ≡ 1 → fineAt (frame a (end b) (end r) f) (frame a (end b) (end r) f′)
-        ≡ at3 (stepTo b (x a)) (x (next a)) (x (next (next a))) || at3 (x a) (stepTo r (x (next a))) (x (next (next a)))
-        || at3 (stepTo b (x a)) (stepTo r (x (next a))) (x (next (next a)))
+        ≡ at3 (stepped b (x a)) (x (next a)) (x (next (next a))) || at3 (x a) (stepped r (x (next a))) (x (next (next a)))
+        || at3 (stepped b (x a)) (stepped r (x (next a))) (x (next (next a)))
     along-last b r f f′ e =
         moved _ _ ∙ edge-last l d (read d l s) c n (leaf .fits) a (x a) (x (next a)) (x (next (next a))) inside unsplit b r f f′ e
 
@@ -182,17 +156,17 @@ module _ (d : Pos) (l : ℕ) (s : List ℕ) (c : Closed l d (read d l s)) (x : P
       beside-whole : at3 (x a + 1) (x (next a)) (x (next (next a))) ≡ false
       beside-whole =
           ap (splitAt l d (read d l s) (suc n)) (beside-frame a true x)
-          ∙ ap (λ (b : Bool). within (counts l d (suc n)) (beside a true x) && b) h ∙ and-none (within (counts l d (suc n)) (beside a true x))
+          ∙ ap (λ (b : Bool). within (counts l d (suc n)) (beside a true x) && b) h ∙ and-false (within (counts l d (suc n)) (beside a true x))
 
       next-edge : (r : Bool) (f f′ : ℕ) → f + f′ ≡ 1 → fineAt (frame a 1 f (end r)) (frame a 1 f′ (end r))
-          ≡ eitherIn s (levelOf d l (suc n)) a (x a) (x a + 1) (x (next a)) (stepTo r (x (next (next a))))
+          ≡ eitherIn s (levelOf d l (suc n)) a (x a) (x (next a)) (stepped r (x (next (next a))))
       next-edge r f f′ e =
           along-next true r f f′ e
           ∙ spare d l s c (suc n) x a true leaf _ _ _ beside-whole
           ∙ sym (either-read d l s c (suc n) x a true leaf _ _)
 
       last-edge : (r : Bool) (f f′ : ℕ) → f + f′ ≡ 1 → fineAt (frame a 1 (end r) f) (frame a 1 (end r) f′)
-          ≡ eitherIn s (levelOf d l (suc n)) a (x a) (x a + 1) (stepTo r (x (next a))) (x (next (next a)))
+          ≡ eitherIn s (levelOf d l (suc n)) a (x a) (stepped r (x (next a))) (x (next (next a)))
       last-edge r f f′ e =
           along-last true r f f′ e
           ∙ spare d l s c (suc n) x a true leaf _ _ _ beside-whole
@@ -200,14 +174,9 @@ module _ (d : Pos) (l : ℕ) (s : List ℕ) (c : Closed l d (read d l s)) (x : P
 
     -- a split neighbour puts a finer vertex on each edge of the face between
     module _ (b : Bool) (r : reaches (counts l d (suc n) a) b (x a) ≡ true) (h : read d l s (suc n) (beside a b x) ≡ true) where
-      step-same : (b : Bool) (i : ℕ) → stepTo b i ≡ stepped b i
-      step-same true i = refl
-      step-same false i = refl
-
-      beside-split : at3 (stepTo b (x a)) (x (next a)) (x (next (next a))) ≡ true
+      beside-split : at3 (stepped b (x a)) (x (next a)) (x (next (next a))) ≡ true
       beside-split =
-          ap (λ (u : ℕ). at3 u (x (next a)) (x (next (next a)))) (step-same b (x a))
-          ∙ ap (splitAt l d (read d l s) (suc n)) (beside-frame a b x)
+          ap (splitAt l d (read d l s) (suc n)) (beside-frame a b x)
           ∙ ap₂ (λ (p q : Bool). p && q) (in-within _ (beside a b x) (beside-in (counts l d (suc n)) a b x (leaf .inside) r)) h
 
       first-true : (p q z : Bool) → p ≡ true → p || q || z ≡ true
@@ -243,7 +212,7 @@ module _ (d : Pos) (l : ℕ) (s : List ℕ) (c : Closed l d (read d l s)) where
 
   -- a leaf's side, read
   pub beside-read : (m : ℕ) (x : Pos) (a : Axis) (high : Bool) → IsLeaf l d (read d l s) m x
-      → facing s (levelOf d l m) (levelOf d l (suc m)) (eqb m l) (counts l d m) x a high ≡ besideAt l d (read d l s) m x a high
+      → facing s (aroundOf d l m) (counts l d m) x a high ≡ besideAt l d (read d l s) m x a high
   unfolding besideIn
   beside-read m x a high leaf =
       go (reaches (counts l d m a) high (x a)) refl
@@ -256,7 +225,7 @@ module _ (d : Pos) (l : ℕ) (s : List ℕ) (c : Closed l d (read d l s)) where
       other = coarser (suc m) (parent (beside a high x))
 
       go : (r : Bool) → reaches (counts l d m a) high (x a) ≡ r
-          → facing s (levelOf d l m) (levelOf d l (suc m)) (eqb m l) (counts l d m) x a high
+          → facing s (aroundOf d l m) (counts l d m) x a high
           ≡ told (finer l d (read d l s) m) m x a high
           (localSide (reaches (counts l d m a) high (x a)) (read d l s m (beside a high x)) (eqb m l || read d l s (suc m) (parent (beside a high x))) other)
       go true er =
@@ -305,8 +274,8 @@ module _ (d : Pos) (l : ℕ) (s : List ℕ) (c : Closed l d (read d l s)) where
 
 -- the six sides, read
 pub sides-read : (d : Pos) (l : ℕ) (s : List ℕ) (c : Closed l d (read d l s)) (m : ℕ) (x : Pos) → IsLeaf l d (read d l s) m x
-    → sidesIn s (levelOf d l m) (levelOf d l (suc m)) (eqb m l) (counts l d m) x ≡ sidesAt l d (read d l s) m x
-unfolding sidesIn sidesAt
+    → six (facing s (aroundOf d l m) (counts l d m) x) ≡ sidesAt l d (read d l s) m x
+unfolding sidesAt
 sides-read d l s c m x leaf =
     let b = beside-read d l s c m x in
     rw (b ax false leaf, b ax true leaf, b ay false leaf, b ay true leaf, b az false leaf, b az true leaf) refl

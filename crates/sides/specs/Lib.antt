@@ -1,2 +1,2 @@
-pub mod Reading
-pub mod Told
+-- What is told of a leaf's sides, and how it is read.
+pub mod Parts

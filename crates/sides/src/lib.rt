@@ -1,27 +1,20 @@
 // Finds in the split table what stands beside a leaf of a graded octree, by local tests: two bytes decide a side, parity the
 // rotation, two octants a midpoint.
+use octree::Level;
+use octree::Octant;
+use octree::Roots;
 use octree::along;
 use octree::hits;
+use octree::level_at;
 ghost use mathlib.Core.Path.{_≡_};
-ghost use Prim.Native.Nat.{_-_, _^_, _≤_, _<_};
+ghost use Prim.Native.Nat.{_^_, _≤_, _<_};
 ghost use lib.ListN.{length};
-ghost use Rattle.space.specs.Space.{pos};
+ghost use Rattle.space.specs.Levels.{mostLevels, mostRoots, Counts};
 ghost use Rattle.lists.specs.Tests.{bit};
-ghost use Rattle.octants.specs.Table.{read};
-ghost use Rattle.octants.specs.Levels.{Dims};
-ghost use Rattle.octree_cells.specs.Cells.{reaches, stepped, leafCells};
+ghost use Rattle.octree.specs.Parts.{rootsOf, Held};
+ghost use Rattle.octree_cells.specs.Cells.{reaches, stepped};
 ghost use Rattle.octree_cells.specs.Leaf.{turnAt};
-ghost use Rattle.octree_cells.specs.Leaf.{IsLeaf};
-ghost use Rattle.sides.specs.Reading.{Held, axisOf, splitIn, eitherIn, equalIn, besideIn, sidesIn, levelOf, givenAt};
-ghost use Rattle.sides.specs.Told.{sidesAt, Taken};
-
-// Where a level of the table begins, and how many octants it has along each axis. A level without bytes has none.
-pub struct Level {
-    pub start: usize,
-    pub nx: usize,
-    pub ny: usize,
-    pub nz: usize,
-}
+ghost use Rattle.sides.specs.Parts.{Taken, LeafIn, cellsAt, sidesOf, axisOf, splitIn, eitherIn, equalIn, besideIn, levelOf, aroundOf, HeldAround, Near, givenAt};
 
 // Whether each edge of a face has a finer vertex at its midpoint.
 pub struct Edges {
@@ -53,6 +46,22 @@ pub struct Sides {
     pub z1: Beside,
 }
 
+// What is read around a leaf: its level and the one above. A level without bytes has no octants.
+struct Around {
+    here: Level,
+    above: Level,
+    root: bool,
+}
+
+// A leaf's place from an axis on: u along it, where its level has n octants, v along the next axis, w along the one after it.
+struct Spot {
+    axis: u32,
+    n: usize,
+    u: usize,
+    v: usize,
+    w: usize,
+}
+
 // Whether the octant at u along an axis, v along the next and w along the one after it is there and split.
 fn split_in(split: &[u8], level: Level, axis: u32, u: usize, v: usize, w: usize) -> bool
     requires { ⌜ Held (now split) level ⌝ }
@@ -67,15 +76,15 @@ fn split_in(split: &[u8], level: Level, axis: u32, u: usize, v: usize, w: usize)
     hits(split, level.start, level.nx, level.ny, level.nz, v, w, u)
 }
 
-// Whether one of two octants that are neighbours along the axis is split.
-fn either_in(split: &[u8], level: Level, axis: u32, u: usize, y: usize, v: usize, w: usize) -> bool
-    requires { ⌜ Held (now split) level ⌝ }
-    ensures { λ r. ⌜ r ≡ eitherIn (now (split .entry)) level (axisOf axis) u y v w ⌝ }
+// Whether this octant or the next one along the axis is split.
+fn either_in(split: &[u8], level: Level, axis: u32, u: usize, v: usize, w: usize) -> bool
+    requires { ⌜ Held (now split) level × (u < 2 ^ 32) ⌝ }
+    ensures { λ r. ⌜ r ≡ eitherIn (now (split .entry)) level (axisOf axis) u v w ⌝ }
 {
     if split_in(split, level, axis, u, v, w) {
         return true;
     }
-    split_in(split, level, axis, y, v, w)
+    split_in(split, level, axis, u + 1, v, w)
 }
 
 // One step along an axis; a step down from 0 stays.
@@ -120,109 +129,53 @@ fn turn_of(v: usize, w: usize) -> u64
 }
 
 // A neighbour of equal level: the octants beside each edge of the face, its own two left out.
-fn equal_of(
-    split: &[u8],
-    here: Level,
-    axis: u32,
-    u: usize,
-    v: usize,
-    w: usize,
-    high: bool,
-) -> Beside
-    requires { ⌜ Held (now split) here ⌝ }
-    requires { ⌜ (u < 2 ^ 32) × (v < 2 ^ 32) × (w < 2 ^ 32) ⌝ }
-    ensures { λ r. ⌜ r ≡ equalIn (now (split .entry)) here (axisOf axis) u v w high ⌝ }
+fn equal_of(split: &[u8], here: Level, p: Spot, high: bool) -> Beside
+    requires { ⌜ Held (now split) here × Near p ⌝ }
+    ensures { λ r. ⌜ r ≡ equalIn (now (split .entry)) here (axisOf (p .axis)) (p .u) (p .v) (p .w) high ⌝ }
 {
     if !high {
         return Beside::Given;
     }
-    let e0 = either_in(split, here, axis, u, u + 1, v, step_to(w, false));
-    let e1 = either_in(split, here, axis, u, u + 1, v + 1, w);
-    let e2 = either_in(split, here, axis, u, u + 1, v, w + 1);
-    let e3 = either_in(split, here, axis, u, u + 1, step_to(v, false), w);
+    let axis = p.axis;
+    let u = p.u;
+    let v = p.v;
+    let w = p.w;
+    let e0 = either_in(split, here, axis, u, v, step_to(w, false));
+    let e1 = either_in(split, here, axis, u, v + 1, w);
+    let e2 = either_in(split, here, axis, u, v, w + 1);
+    let e3 = either_in(split, here, axis, u, step_to(v, false), w);
     Beside::Equal(Edges { e0, e1, e2, e3 })
 }
 
-// What stands beside the leaf at u, v, w, along an axis with n octants of its level and the two after it.
-fn side_of(
-    split: &[u8],
-    here: Level,
-    above: Level,
-    root: bool,
-    n: usize,
-    axis: u32,
-    u: usize,
-    v: usize,
-    w: usize,
-    high: bool,
-) -> Beside
-    requires { ⌜ Held (now split) here × Held (now split) above ⌝ }
-    requires { ⌜ (u < 2 ^ 32) × (v < 2 ^ 32) × (w < 2 ^ 32) ⌝ }
-    ensures { λ r. ⌜ r ≡ besideIn (now (split .entry)) here above root n (axisOf axis) u v w high ⌝ }
+// What stands beside a leaf on a side of an axis.
+fn side_of(split: &[u8], l: Around, p: Spot, high: bool) -> Beside
+    requires { ⌜ HeldAround (now split) l × Near p ⌝ }
+    ensures { λ r. ⌜ r ≡ besideIn (now (split .entry)) l (p .n) (axisOf (p .axis)) (p .u) (p .v) (p .w) high ⌝ }
 {
-    if !reach(n, high, u) {
+    let here = l.here;
+    let above = l.above;
+    let v = p.v;
+    let w = p.w;
+    if !reach(p.n, high, p.u) {
         return Beside::Border;
     }
-    let y = step_to(u, high);
-    if split_in(split, here, axis, y, v, w) {
+    let y = step_to(p.u, high);
+    if split_in(split, here, p.axis, y, v, w) {
         return Beside::Split;
     }
-    if root {
-        return equal_of(split, here, axis, u, v, w, high);
+    if l.root {
+        return equal_of(split, here, p, high);
     }
-    if split_in(split, above, axis, y / 2, v / 2, w / 2) {
-        return equal_of(split, here, axis, u, v, w, high);
+    if split_in(split, above, p.axis, y / 2, v / 2, w / 2) {
+        return equal_of(split, here, p, high);
     }
     Beside::Coarser(turn_of(v, w))
 }
 
-// The six sides of the leaf at (i, j, k), with nx, ny, nz octants of its level along the axes.
-fn sides_of(
-    split: &[u8],
-    here: Level,
-    above: Level,
-    root: bool,
-    nx: usize,
-    ny: usize,
-    nz: usize,
-    i: usize,
-    j: usize,
-    k: usize,
-) -> Sides
-    requires { ⌜ Held (now split) here × Held (now split) above ⌝ }
-    requires { ⌜ (i < 2 ^ 32) × (j < 2 ^ 32) × (k < 2 ^ 32) ⌝ }
-    ensures { λ r. ⌜ r ≡ sidesIn (now (split .entry)) here above root (pos nx ny nz) (pos i j k) ⌝ }
-{
-    let x0 = side_of(split, here, above, root, nx, 0, i, j, k, false);
-    let x1 = side_of(split, here, above, root, nx, 0, i, j, k, true);
-    let y0 = side_of(split, here, above, root, ny, 1, j, k, i, false);
-    let y1 = side_of(split, here, above, root, ny, 1, j, k, i, true);
-    let z0 = side_of(split, here, above, root, nz, 2, k, i, j, false);
-    let z1 = side_of(split, here, above, root, nz, 2, k, i, j, true);
-    Sides {
-        x0: x0,
-        x1: x1,
-        y0: y0,
-        y1: y1,
-        z0: z0,
-        z1: z1,
-    }
-}
-
-// How many levels stand above a level, where there are any.
-fn depth_of(levels: usize, m: usize) -> usize
-    ensures { λ r. ⌜ r ≡ levels - m ⌝ }
-{
-    if levels < m {
-        return 0;
-    }
-    levels - m
-}
-
-// A level of the table of so many levels over nx, ny, nz roots.
-fn level_of(nx: usize, ny: usize, nz: usize, levels: usize, m: usize) -> Level
-    requires { ⌜ Dims nx ny nz × (levels ≤ 5) ⌝ }
-    ensures { λ r. ⌜ r ≡ levelOf (pos nx ny nz) levels m ⌝ }
+// A level of the table over these roots.
+fn level_of(d: Roots, m: usize) -> Level
+    requires { ⌜ Counts mostRoots (rootsOf d) × (d .levels ≤ mostLevels) ⌝ }
+    ensures { λ r. ⌜ r ≡ levelOf (rootsOf d) (d .levels) m ⌝ }
 {
     if m == 0 {
         return Level {
@@ -232,37 +185,69 @@ fn level_of(nx: usize, ny: usize, nz: usize, levels: usize, m: usize) -> Level
             nz: 0,
         };
     }
-    let k = depth_of(levels, m);
-    let w = along(1, k);
-    Level {
-        start: nx * ny * nz * ((w * w * w - 1) / 7),
-        nx: nx * w,
-        ny: ny * w,
-        nz: nz * w,
+    let levels = d.levels;
+    if levels < m {
+        return level_at(d, 0);
+    }
+    level_at(d, levels - m)
+}
+
+// What is read around a leaf of level m.
+fn around_of(d: Roots, m: usize) -> Around
+    requires { ⌜ Counts mostRoots (rootsOf d) × (d .levels ≤ mostLevels) × (m ≤ mostLevels) ⌝ }
+    ensures { λ r. ⌜ r ≡ aroundOf (rootsOf d) (d .levels) m ⌝ }
+{
+    let here = level_of(d, m);
+    let above = level_of(d, m + 1);
+    Around {
+        here,
+        above,
+        root: m == d.levels,
     }
 }
 
-// The six sides of the leaf of level m at (i, j, k).
-pub fn sides_at(
-    split: &[u8],
-    nx: usize,
-    ny: usize,
-    nz: usize,
-    levels: usize,
-    m: usize,
-    i: usize,
-    j: usize,
-    k: usize,
-) -> Sides
-    requires { ⌜ Taken (now split) nx ny nz levels ⌝ }
-    requires { ⌜ IsLeaf levels (pos nx ny nz) (read (pos nx ny nz) levels (now split)) m (pos i j k) ⌝ }
-    ensures { λ r. ⌜ r ≡ sidesAt levels (pos nx ny nz) (read (pos nx ny nz) levels (now (split .entry))) m (pos i j k) ⌝ }
+// The six sides of a leaf.
+pub fn sides_at(split: &[u8], d: Roots, o: Octant) -> Sides
+    requires { ⌜ Taken (now split) d × LeafIn (now split) d o ⌝ }
+    ensures { λ r. ⌜ r ≡ sidesOf (now (split .entry)) d o ⌝ }
 {
-    let here = level_of(nx, ny, nz, levels, m);
-    let above = level_of(nx, ny, nz, levels, m + 1);
-    let w = along(1, levels - m);
-    let root = m == levels;
-    sides_of(split, here, above, root, nx * w, ny * w, nz * w, i, j, k)
+    let l = around_of(d, o.level);
+    let w = along(1, d.levels - o.level);
+    let x = Spot {
+        axis: 0,
+        n: d.nx * w,
+        u: o.x,
+        v: o.y,
+        w: o.z,
+    };
+    let y = Spot {
+        axis: 1,
+        n: d.ny * w,
+        u: o.y,
+        v: o.z,
+        w: o.x,
+    };
+    let z = Spot {
+        axis: 2,
+        n: d.nz * w,
+        u: o.z,
+        v: o.x,
+        w: o.y,
+    };
+    let x0 = side_of(split, l, x, false);
+    let x1 = side_of(split, l, x, true);
+    let y0 = side_of(split, l, y, false);
+    let y1 = side_of(split, l, y, true);
+    let z0 = side_of(split, l, z, false);
+    let z1 = side_of(split, l, z, true);
+    Sides {
+        x0,
+        x1,
+        y0,
+        y1,
+        z0,
+        z1,
+    }
 }
 
 fn one(e: bool) -> usize
@@ -287,23 +272,12 @@ fn given_at(side: Beside) -> usize
     }
 }
 
-// How many cells the leaf of level m at (i, j, k) gives.
-pub fn count_leaf(
-    split: &[u8],
-    nx: usize,
-    ny: usize,
-    nz: usize,
-    levels: usize,
-    m: usize,
-    i: usize,
-    j: usize,
-    k: usize,
-) -> usize
-    requires { ⌜ Taken (now split) nx ny nz levels ⌝ }
-    requires { ⌜ IsLeaf levels (pos nx ny nz) (read (pos nx ny nz) levels (now split)) m (pos i j k) ⌝ }
-    ensures { λ r. ⌜ r ≡ length (leafCells levels (pos nx ny nz) (read (pos nx ny nz) levels (now (split .entry))) m (pos i j k)) ⌝ }
+// How many cells a leaf gives.
+pub fn count_leaf(split: &[u8], d: Roots, o: Octant) -> usize
+    requires { ⌜ Taken (now split) d × LeafIn (now split) d o ⌝ }
+    ensures { λ r. ⌜ r ≡ length (cellsAt (now (split .entry)) d o) ⌝ }
 {
-    let f = sides_at(split, nx, ny, nz, levels, m, i, j, k);
+    let f = sides_at(split, d, o);
     let x0 = f.x0;
     let x1 = f.x1;
     let y0 = f.y0;

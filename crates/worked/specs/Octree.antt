@@ -1,16 +1,16 @@
 -- The octree of box all 0, c 1, L 1 with no root split: its cells and vertices. The cells are counted by computation; the distinct keys of their vertices
 -- are those of nine points a leaf (same-vertices), which are sorted and counted by computation.
 use mathlib.Core.Path.{_≡_, refl, ap, sym, _∙_, fun-ext}
-use mathlib.Core.Bool.{Bool, true, false}
-use mathlib.Core.List.{List, [], _∷_}
+use mathlib.Core.Bool.{false}
+use mathlib.Core.List.{List}
 use Prim.Native.Nat.{ℕ, zero, suc, _+_, _-_, _≤_}
 use native.Mathlib.Omega.{arith}
 use lib.Dec.{eqb}
 use lib.ListN.{length, replicate, length-map}
-use Rattle.space.specs.Space.{Axis, ax, ay, az, Pos, pos}
+use Rattle.space.specs.Space.{Pos, pos}
 use Rattle.space.proofs.Space.{on-all}
 use Rattle.lists.specs.Tests.{any}
-use Rattle.octants.specs.Oct.{Tree, Closed}
+use Rattle.octants.specs.Oct.{Tree}
 use Rattle.lists.proofs.Bools.{clash}
 use Rattle.space.specs.Levels.{off, depth}
 use Rattle.octants.specs.Table.{slot, read}
@@ -19,8 +19,9 @@ use Rattle.lists.proofs.Lent.{zeros-at}
 use Rattle.vertex_keys.specs.Keys.{keyOf, tripleOf}
 use Rattle.sorting.specs.Numbers.{insert, distinctSorted}
 use Rattle.sorting.proofs.Members.{same-distinct}
-use Rattle.sides.specs.Told.{Taken}
-use Rattle.leaf_cells.specs.Listed.{keysOf, leafKeys}
+use Rattle.octree.specs.declared.Roots.{Roots}
+use Rattle.sides.specs.Parts.{Taken}
+use Rattle.leaf_cells.specs.Parts.{keysOf, leafKeys}
 use Rattle.leaf_cells.proofs.Leafwise.{same-vertices}
 use Rattle.grid.specs.Grid.{gridCells, gridVertices, vertexKeys}
 
@@ -42,13 +43,18 @@ reads-whole = fun-ext (λ m. fun-ext (go m))
     go zero x = refl
     go (suc m) x = ap (λ (n : ℕ). eqb n 1) (zeros-at 216 (off six (1 - suc m) + slot (depth six (1 - suc m)) x))
 
-taken : Taken unsplit 6 6 6 1
+abbrev sixes : Roots
+sixes = record { nx = 6; ny = 6; nz = 6; levels = 1 }
+
+taken : Taken unsplit sixes
 unfolding off
 taken = record {
-  dims = record { some = on-all (λ a. 1 ≤ six a) (omega arith) (omega arith) (omega arith); few = on-all (λ a. six a ≤ 64) (omega arith) (omega arith) (omega arith) };
+  covers = record {
+    roots = record { some = on-all (λ a. 1 ≤ six a) (omega arith) (omega arith) (omega arith); few = on-all (λ a. six a ≤ 64) (omega arith) (omega arith) (omega arith) };
+    levels = omega arith;
+    octants = refl;
+  };
   some = omega arith;
-  few = omega arith;
-  whole = refl;
   graded = record {
     finest = λ x. ap (λ (t : Tree). t 0 x) reads-whole;
     push = λ m x y h p q r e. clash e (ap (λ (t : Tree). t m y) reads-whole);
@@ -68,6 +74,6 @@ unfolding gridCells gridVertices vertexKeys
 octree-six = (
   ap (λ (t : Tree). length (cells 1 six t)) reads-whole ∙ whole-cells,
   length-map (distinctSorted (flat keyOf (cells 1 six (read six 1 unsplit)))) tripleOf
-      ∙ ap length (sym (same-distinct (flat keyOf (cells 1 six (read six 1 unsplit))) (leafKeys 1 six (read six 1 unsplit)) (same-vertices unsplit 6 6 6 1 taken)))
+      ∙ ap length (sym (same-distinct (flat keyOf (cells 1 six (read six 1 unsplit))) (leafKeys 1 six (read six 1 unsplit)) (same-vertices unsplit sixes taken)))
       ∙ ap (λ (t : Tree). length (distinctSorted (leafKeys 1 six t))) reads-whole ∙ whole-keys,
 )

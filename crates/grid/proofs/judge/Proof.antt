@@ -1,15 +1,18 @@
-use mathlib.Core.Path.{_≡_, refl, _∙_}
+use mathlib.Core.Path.{_≡_, refl, sym, ap, subst, _∙_}
 use mathlib.Core.Bool.{true}
 use mathlib.Core.List.{List}
 use Prim.Native.Nat.{ℕ, _≤_}
 use native.Mathlib.Omega.{arith}
 use borrow.Author.Tests.{eq-eqb, ne-eqb}
+use lib.ListN.{length}
 use Rattle.refusals.specs.Rows.{first}
 use Rattle.lists.proofs.Tests.{failed, passed}
+use Rattle.lists.specs.Tests.{any}
 use Rattle.space.specs.Space.{Pos}
 use Rattle.space.proofs.Space.{on-all}
-use Rattle.lists.specs.Tests.{any}
 use Rattle.octants.specs.Judge.{isGraded}
+use Rattle.octree.specs.Parts.{rootsOf, Covers}
+use Rattle.octree.specs.declared.Roots.{Roots}
 use Rattle.plan.specs.Vertices.{dimsOf}
 use Rattle.grid.specs.Step.{splitRows}
 use borrow.Author.Needs.{needs}
@@ -37,46 +40,40 @@ returns-2 c = rw (eq-eqb _ _ (c .before .before .if1 .left), failed (c .before .
 
 returns-3 : tie.Need-returns-3
 unfolding splitRows first
-returns-3 c =
-    let p = c .before .before .before .before .before .before .before .args .p in
-    rw (eq-eqb _ _ (c .before .before .before .before .if1 .left), passed (c .before .before .before .all-at-most .ensures) (c .before .before .if2 .left), flat-graded (dimsOf p) _ _ (c .if3 .taken)) refl
+returns-3 c = rw (eq-eqb _ _ (c .before .before .before .before .if1 .left), passed (c .before .before .before .all-at-most .ensures) (c .before .before .if2 .left), flat-graded (dimsOf (c .before .before .before .before .before .before .before .args .p)) _ _ (c .if3 .taken)) refl
 
-cast-t4 : tie.Need-cast-t4
-cast-t4 c = search needs
-
-cast-t5 : tie.Need-cast-t5
-cast-t5 c = search needs
-
-cast-t8 : tie.Need-cast-t8
-cast-t8 c = search needs
-
-cast-t9 : tie.Need-cast-t9
-cast-t9 c = search needs
+roots-of-requires : tie.Need-roots-of-requires
+roots-of-requires c κs = search needs
 
 is-graded-requires : tie.Need-is-graded-requires
 is-graded-requires c κs =
-    let q = c .before .before .before .before .before .before .before .before .before .before .before .pre in
-    let p = c .before .before .before .before .before .before .before .before .before .before .before .args .p in
-    let f : 1 ≤ p .levels = omega (arith, c .before .before .before .before .if3 .left) in
-    let r = q .roots-few f in (
+    let q = c .before .before .before .before .before .before .before .before .pre in
+    let p = c .before .before .before .before .before .before .before .before .args .p in
+    let f : 1 ≤ p .levels = omega (arith, c .before .if3 .left) in
+    let r = q .roots-few f in
+    subst (λ (d : Roots). Covers d (length (c .before .before .before .before .before .before .before .before .args .split .now)) × (1 ≤ d .levels)) (sym (c .roots-of .ensures)) (
       record {
         roots = record {
           some = on-all (λ a. 1 ≤ dimsOf p a) (q .dims-some .0) (q .dims-some .1) (q .dims-some .2);
           few = on-all (λ a. dimsOf p a ≤ 64) (r .0) (r .1) (r .2);
         };
         levels = q .levels-few;
-        octants = c .before .before .before .before .before .before .before .before .if1 .left ∙ q .octants-are;
+        octants = c .before .before .before .before .before .if1 .left ∙ q .octants-are;
       },
       f,
     )
 
 returns-4 : tie.Need-returns-4
 unfolding splitRows first
-returns-4 c = rw (eq-eqb _ _ (c .before .before .before .before .before .before .before .before .before .before .if1 .left), passed (c .before .before .before .before .before .before .before .before .before .all-at-most .ensures) (c .before .before .before .before .before .before .before .before .if2 .left), failed (c .before .is-graded .ensures) (c .if4 .taken)) refl
+returns-4 c =
+    let g = c .before .is-graded .ensures ∙ ap (λ (d : Roots). isGraded (rootsOf d) (d .levels) (c .before .before .before .before .before .before .before .before .before .before .args .split .now)) (c .before .before .roots-of .ensures) in
+    rw (eq-eqb _ _ (c .before .before .before .before .before .before .before .if1 .left), passed (c .before .before .before .before .before .before .all-at-most .ensures) (c .before .before .before .before .before .if2 .left), failed g (c .if4 .taken)) refl
 
 returns-5 : tie.Need-returns-5
 unfolding splitRows first
-returns-5 c = rw (eq-eqb _ _ (c .before .before .before .before .before .before .before .before .before .before .if1 .left), passed (c .before .before .before .before .before .before .before .before .before .all-at-most .ensures) (c .before .before .before .before .before .before .before .before .if2 .left), passed (c .before .is-graded .ensures) (c .if4 .left)) refl
+returns-5 c =
+    let g = c .before .is-graded .ensures ∙ ap (λ (d : Roots). isGraded (rootsOf d) (d .levels) (c .before .before .before .before .before .before .before .before .before .before .args .split .now)) (c .before .before .roots-of .ensures) in
+    rw (eq-eqb _ _ (c .before .before .before .before .before .before .before .if1 .left), passed (c .before .before .before .before .before .before .all-at-most .ensures) (c .before .before .before .before .before .if2 .left), passed g (c .if4 .left)) refl
 
 pub judge-spec : {M : Type 1} → statement M
 judge-spec =
@@ -87,10 +84,7 @@ judge-spec =
     all-at-most-requires
     returns-2
     returns-3
-    cast-t4
-    cast-t5
-    cast-t8
-    cast-t9
+    roots-of-requires
     is-graded-requires
     returns-4
     returns-5)

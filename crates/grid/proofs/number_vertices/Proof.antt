@@ -35,8 +35,8 @@ leaf-keys-requires : tie.Need-leaf-keys-requires
 leaf-keys-requires c κs =
     let a = c .before .before .before .before .before .before .before .args in
     let h = c .before .before .before .before .before .before .before .pre in
-    let k = standing (a .split .now) (a .nx) (a .ny) (a .nz) (a .levels) (a .many) (a .work .now) h _ (c .before .before .before .list-leaves .ensures) in
-    ((k .fits, omega arith), all-placed _ _ _ _ _ (h .taken) _ _ _ k)
+    let k = standing (a .split .now) (a .d) (a .many) (a .work .now) h _ (c .before .before .before .list-leaves .ensures) in
+    ((k .fits, omega arith), all-placed _ _ (h .taken) _ _ _ k)
 
 slice-relend-prefix-number : tie.Need-slice-relend-prefix-number
 slice-relend-prefix-number c = search needs
@@ -44,8 +44,7 @@ slice-relend-prefix-number c = search needs
 slice-aggregate-number : tie.Need-slice-aggregate-number
 slice-aggregate-number c =
     let a = c .before .before .before .before .before .before .before .before .before .before .before .args in
-    let h = c .before .before .before .before .before .before .before .before .before .before .before .pre in
-    let k = standing (a .split .now) (a .nx) (a .ny) (a .nz) (a .levels) (a .many) (a .work .now) h _ (c .before .before .before .before .before .before .before .list-leaves .ensures) in
+    let k = standing (a .split .now) (a .d) (a .many) (a .work .now) (c .before .before .before .before .before .before .before .before .before .before .before .pre) _ (c .before .before .before .before .before .before .before .list-leaves .ensures) in
     sym (length-take-le _ _ (omega (arith, k .fits, c .before .before .before .leaf-keys .kept .0)))
 
 number-requires : tie.Need-number-requires
@@ -57,14 +56,14 @@ slice-relend-prefix-index c = search needs
 slice-aggregate-index : tie.Need-slice-aggregate-index
 slice-aggregate-index c =
     let a = c .before .before .before .before .before .before .before .before .before .before .before .before .before .before .before .args in
-    let h = c .before .before .before .before .before .before .before .before .before .before .before .before .before .before .before .pre in
-    sym (front-long (a .split .now) (a .nx) (a .ny) (a .nz) (a .levels) (a .many) (a .work .now) h _ (c .before .before .before .before .before .before .before .before .before .before .before .list-leaves .ensures) _ _ _ (c .before .before .before .before .before .before .before .leaf-keys .ensures) (c .before .before .before .number .kept .0) (c .before .before .before .number .ensures .1) (c .before .before .before .number .ensures .0))
+    sym (front-long (a .split .now) (a .d) (a .many) (a .work .now) (c .before .before .before .before .before .before .before .before .before .before .before .before .before .before .before .pre) _ (c .before .before .before .before .before .before .before .before .before .before .before .list-leaves .ensures) _ _ _ (c .before .before .before .before .before .before .before .leaf-keys .ensures)
+    (c .before .before .before .number .kept .0) (c .before .before .before .number .ensures .1) (c .before .before .before .number .ensures .0))
 
 index-requires : tie.Need-index-requires
 index-requires c κs =
     let a = c .before .before .before .before .before .before .before .before .before .before .before .before .before .before .before .args in
-    let h = c .before .before .before .before .before .before .before .before .before .before .before .before .before .before .before .pre in
-    index-asks (a .split .now) (a .nx) (a .ny) (a .nz) (a .levels) (a .many) (a .work .now) h _ (c .before .before .before .before .before .before .before .before .before .before .before .list-leaves .ensures) _ _ _ (c .before .before .before .before .before .before .before .leaf-keys .ensures) (c .before .before .before .number .kept .0) (c .before .before .before .number .ensures .1) (c .before .before .before .number .ensures .0)
+    index-asks (a .split .now) (a .d) (a .many) (a .work .now) (c .before .before .before .before .before .before .before .before .before .before .before .before .before .before .before .pre) _ (c .before .before .before .before .before .before .before .before .before .before .before .list-leaves .ensures) _ _ _ (c .before .before .before .before .before .before .before .leaf-keys .ensures)
+    (c .before .before .before .number .kept .0) (c .before .before .before .number .ensures .1) (c .before .before .before .number .ensures .0)
 
 same-length : tie.Need-same-length
 same-length c = search needs
@@ -72,8 +71,8 @@ same-length c = search needs
 returns : tie.Need-returns
 returns c =
     let a = c .before .before .before .before .before .before .before .before .before .before .before .before .before .before .before .before .before .before .args in
-    let h = c .before .before .before .before .before .before .before .before .before .before .before .before .before .before .before .before .before .before .pre in
-    ready (a .split .now) (a .nx) (a .ny) (a .nz) (a .levels) (a .many) (a .work .now) h _ (c .before .before .before .before .before .before .before .before .before .before .before .before .before .before .list-leaves .ensures) _ _ _ (c .before .before .before .before .before .before .before .before .before .before .leaf-keys .ensures) (c .before .before .before .before .before .before .number .kept .0) (c .before .before .before .before .before .before .number .ensures .1) (c .before .before .before .before .before .before .number .ensures .0) _ (c .before .before .index .kept .0) (c .before .before .index .ensures)
+    ready (a .split .now) (a .d) (a .many) (a .work .now) (c .before .before .before .before .before .before .before .before .before .before .before .before .before .before .before .before .before .before .pre) _ (c .before .before .before .before .before .before .before .before .before .before .before .before .before .before .list-leaves .ensures) _ _ _ (c .before .before .before .before .before .before .before .before .before .before .leaf-keys .ensures)
+    (c .before .before .before .before .before .before .number .kept .0) (c .before .before .before .before .before .before .number .ensures .1) (c .before .before .before .before .before .before .number .ensures .0) _ (c .before .before .index .kept .0) (c .before .before .index .ensures)
 
 pub number-vertices-spec : {M : Type 1} → statement M
 number-vertices-spec =

@@ -3,7 +3,7 @@ use mathlib.Core.Path.{_≡_, refl}
 use Prim.Native.Nat.{suc, _+_}
 use native.Mathlib.Omega.{arith}
 use lib.ListN.{length-set}
-use Rattle.leaf_cells.specs.Listed.{nineKeys}
+use Rattle.leaf_cells.specs.Parts.{nineKeys}
 use Rattle.leaf_cells.proofs.store_nine.Statement.{statement}
 use Rattle.leaf_cells.proofs.store_nine.Tie as tie
 

@@ -1,5 +1,5 @@
-use borrow.Author.Needs.{needs}
 use Rattle.leaves.proofs.Walking.{all-listed}
+use borrow.Author.Needs.{needs}
 use Rattle.leaves.proofs.list_leaves.Statement.{statement}
 use Rattle.leaves.proofs.list_leaves.Tie as tie
 

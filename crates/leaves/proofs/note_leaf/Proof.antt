@@ -1,15 +1,17 @@
-use borrow.Author.Needs.{needs}
 use mathlib.Core.Path.{refl, sym, ap}
 use mathlib.Core.List.{_∷_, []}
 use Prim.Native.Nat.{ℕ}
 use native.Mathlib.Omega.{arith}
-use Rattle.sides.proofs.Levels.{place-small}
+use Rattle.sides.proofs.Levels.{leaf-small}
 use Rattle.leaves.proofs.Walking.{walked-as, noted, counted}
+use borrow.Author.Needs.{needs}
 use Rattle.leaves.proofs.note_leaf.Statement.{statement}
 use Rattle.leaves.proofs.note_leaf.Tie as tie
 
 pack-requires : tie.Need-pack-requires
-pack-requires c κs = let b = c .before .before .before in omega (arith, place-small _ _ _ _ _ _ _ _ _ (b .pre .0) (b .pre .1 .0), b .pre .0 .few, b .pre .1 .0 .fits)
+pack-requires c κs =
+    let h = c .before .before .before .pre .0 in
+    (omega (arith, h .0 .covers .levels, h .1 .fits), λ a. omega (arith, leaf-small _ _ (h .0) _ (h .1) a))
 
 mul-out : tie.Need-mul-out
 mul-out c = search needs
@@ -17,8 +19,8 @@ mul-out c = search needs
 slice-write-out : tie.Need-slice-write-out
 slice-write-out c = search needs
 
-add-t18 : tie.Need-add-t18
-add-t18 c = search needs
+add-t12 : tie.Need-add-t12
+add-t12 c = search needs
 
 same-length : tie.Need-same-length
 same-length c = search needs
@@ -29,11 +31,11 @@ returns c = walked-as (ap (λ (v : ℕ). v ∷ []) (sym (c .pack .ensures))) ref
 count-leaf-requires : tie.Need-count-leaf-requires
 count-leaf-requires c κs = search needs
 
-add-t15 : tie.Need-add-t15
-add-t15 c = search needs
+add-t9 : tie.Need-add-t9
+add-t9 c = search needs
 
-add-t20 : tie.Need-add-t20
-add-t20 c = search needs
+add-t14 : tie.Need-add-t14
+add-t14 c = search needs
 
 returns-2 : tie.Need-returns-2
 returns-2 c = counted _ _ _ _ _ (c .before .if1 .left) (c .count-leaf .ensures)
@@ -45,10 +47,10 @@ note-leaf-spec =
     pack-requires
     mul-out
     slice-write-out
-    add-t18
+    add-t12
     same-length
     returns
     count-leaf-requires
-    add-t15
-    add-t20
+    add-t9
+    add-t14
     returns-2)

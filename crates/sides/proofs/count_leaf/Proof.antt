@@ -1,5 +1,5 @@
-use borrow.Author.Needs.{needs}
 use Rattle.sides.proofs.Levels.{count-link}
+use borrow.Author.Needs.{needs}
 use Rattle.sides.proofs.count_leaf.Statement.{statement}
 use Rattle.sides.proofs.count_leaf.Tie as tie
 
@@ -40,7 +40,9 @@ add-result-5 : tie.Need-add-result-5
 add-result-5 c = search needs
 
 returns : tie.Need-returns
-returns c = count-link _ _ _ _ _ _ _ _ _ (c .before .before .before .before .before .before .before .before .pre .0) (c .before .before .before .before .before .before .before .before .pre .1) _ _ _ _ _ _ _ (c .before .before .before .before .before .before .sides-at .ensures) (c .before .before .before .before .before .given-at .ensures .0) (c .before .before .before .before .given-at2 .ensures .0) (c .before .before .before .given-at3 .ensures .0) (c .before .before .given-at4 .ensures .0) (c .before .given-at5 .ensures .0) (c .given-at6 .ensures .0)
+returns c =
+    count-link _ _ (c .before .before .before .before .before .before .before .before .pre .0) _ (c .before .before .before .before .before .before .before .before .pre .1) (c .before .before .before .before .before .before .sides-at .ensures)
+    (c .before .before .before .before .before .given-at .ensures .0) (c .before .before .before .before .given-at2 .ensures .0) (c .before .before .before .given-at3 .ensures .0) (c .before .before .given-at4 .ensures .0) (c .before .given-at5 .ensures .0) (c .given-at6 .ensures .0)
 
 pub count-leaf-spec : {M : Type 1} → statement M
 count-leaf-spec =

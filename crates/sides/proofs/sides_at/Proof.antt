@@ -1,19 +1,12 @@
-use borrow.Author.Needs.{needs}
-use mathlib.Core.Path.{_∙_}
-use Prim.Native.Nat.{_-_}
 use native.Mathlib.Omega.{arith}
-use Rattle.sides.proofs.Levels.{Small, small, both-held, place-small, sides-link}
+use Rattle.space.specs.Space.{ax, ay, az}
+use Rattle.sides.proofs.Levels.{around-held, near, along-small, sides-link}
+use borrow.Author.Needs.{needs}
 use Rattle.sides.proofs.sides_at.Statement.{statement}
 use Rattle.sides.proofs.sides_at.Tie as tie
 
-level-of-requires : tie.Need-level-of-requires
-level-of-requires c κs = search needs
-
-add-level-of : tie.Need-add-level-of
-add-level-of c = search needs
-
-level-of-requires-2 : tie.Need-level-of-requires-2
-level-of-requires-2 c κs = search needs
+around-of-requires : tie.Need-around-of-requires
+around-of-requires c κs = search needs
 
 sub-along : tie.Need-sub-along
 sub-along c = search needs
@@ -21,37 +14,52 @@ sub-along c = search needs
 along-requires : tie.Need-along-requires
 along-requires c κs = search needs
 
-here : (c : tie.After-along) → let a = c .before .before .before .before .args in Small (a .nx) (a .ny) (a .nz) (c .along .result)
-here c =
-    let s = c .before .before .before .before in
-    small _ _ _ _ (s .args .levels - s .args .m) (s .pre .0 .dims) (c .along .ensures) (omega (arith, s .pre .0 .few))
+mul-t15 : tie.Need-mul-t15
+mul-t15 c = omega (arith, along-small _ _ (c .before .before .before .before .before .before .pre .0) _ (c .before .before .before .before .before .before .pre .1) _ (c .before .along .ensures) ax)
 
-mul-sides-of : tie.Need-mul-sides-of
-mul-sides-of c = omega (arith, here c)
+mul-t15-2 : tie.Need-mul-t15-2
+mul-t15-2 c = omega (arith, along-small _ _ (c .before .before .before .before .before .before .before .pre .0) _ (c .before .before .before .before .before .before .before .pre .1) _ (c .before .before .along .ensures) ay)
 
-mul-sides-of-2 : tie.Need-mul-sides-of-2
-mul-sides-of-2 c = omega (arith, here c)
+mul-t15-3 : tie.Need-mul-t15-3
+mul-t15-3 c = omega (arith, along-small _ _ (c .before .before .before .before .before .before .before .before .pre .0) _ (c .before .before .before .before .before .before .before .before .pre .1) _ (c .before .before .before .along .ensures) az)
 
-mul-sides-of-3 : tie.Need-mul-sides-of-3
-mul-sides-of-3 c = omega (arith, here c)
+side-of-requires : tie.Need-side-of-requires
+side-of-requires c κs = (around-held _ _ (c .before .before .before .before .before .before .before .before .pre .0) _ (c .before .before .before .before .before .before .before .before .pre .1) (c .before .before .before .before .before .before .around-of .ensures), near _ _ (c .before .before .before .before .before .before .before .before .pre .0) _ (c .before .before .before .before .before .before .before .before .pre .1) ax ay az)
 
-sides-of-requires : tie.Need-sides-of-requires
-sides-of-requires c κs = (both-held _ _ _ _ _ _ _ _ _ (c .before .before .before .before .pre .0) (c .before .before .before .before .pre .1) _ _ (c .before .before .level-of .ensures) (c .before .level-of2 .ensures), omega (arith, place-small _ _ _ _ _ _ _ _ _ (c .before .before .before .before .pre .0) (c .before .before .before .before .pre .1)))
+side-of-requires-2 : tie.Need-side-of-requires-2
+side-of-requires-2 c κs = (around-held _ _ (c .before .before .before .before .before .before .before .before .before .pre .0) _ (c .before .before .before .before .before .before .before .before .before .pre .1) (c .before .before .before .before .before .before .before .around-of .ensures), near _ _ (c .before .before .before .before .before .before .before .before .before .pre .0) _ (c .before .before .before .before .before .before .before .before .before .pre .1) ax ay az)
+
+side-of-requires-3 : tie.Need-side-of-requires-3
+side-of-requires-3 c κs = (around-held _ _ (c .before .before .before .before .before .before .before .before .before .before .pre .0) _ (c .before .before .before .before .before .before .before .before .before .before .pre .1) (c .before .before .before .before .before .before .before .before .around-of .ensures), near _ _ (c .before .before .before .before .before .before .before .before .before .before .pre .0) _ (c .before .before .before .before .before .before .before .before .before .before .pre .1) ay az ax)
+
+side-of-requires-4 : tie.Need-side-of-requires-4
+side-of-requires-4 c κs = (around-held _ _ (c .before .before .before .before .before .before .before .before .before .before .before .pre .0) _ (c .before .before .before .before .before .before .before .before .before .before .before .pre .1) (c .before .before .before .before .before .before .before .before .before .around-of .ensures), near _ _ (c .before .before .before .before .before .before .before .before .before .before .before .pre .0) _ (c .before .before .before .before .before .before .before .before .before .before .before .pre .1) ay az ax)
+
+side-of-requires-5 : tie.Need-side-of-requires-5
+side-of-requires-5 c κs = (around-held _ _ (c .before .before .before .before .before .before .before .before .before .before .before .before .pre .0) _ (c .before .before .before .before .before .before .before .before .before .before .before .before .pre .1) (c .before .before .before .before .before .before .before .before .before .before .around-of .ensures), near _ _ (c .before .before .before .before .before .before .before .before .before .before .before .before .pre .0) _ (c .before .before .before .before .before .before .before .before .before .before .before .before .pre .1) az ax ay)
+
+side-of-requires-6 : tie.Need-side-of-requires-6
+side-of-requires-6 c κs = (around-held _ _ (c .before .before .before .before .before .before .before .before .before .before .before .before .before .pre .0) _ (c .before .before .before .before .before .before .before .before .before .before .before .before .before .pre .1) (c .before .before .before .before .before .before .before .before .before .before .before .around-of .ensures), near _ _ (c .before .before .before .before .before .before .before .before .before .before .before .before .before .pre .0) _ (c .before .before .before .before .before .before .before .before .before .before .before .before .before .pre .1) az ax ay)
 
 returns : tie.Need-returns
-returns c = c .sides-of .ensures ∙ sides-link _ _ _ _ _ _ _ _ _ (c .before .before .before .before .before .pre .0) (c .before .before .before .before .before .pre .1) _ _ _ (c .before .before .before .level-of .ensures) (c .before .before .level-of2 .ensures) (c .before .along .ensures)
+returns c =
+    sides-link _ _ (c .before .before .before .before .before .before .before .before .before .before .before .before .before .before .pre .0) _ (c .before .before .before .before .before .before .before .before .before .before .before .before .before .before .pre .1) _ (c .before .before .before .before .before .before .before .before .before .before .before .before .around-of .ensures) (c .before .before .before .before .before .before .before .before .before .along .ensures)
+    (c .before .before .before .before .before .side-of .ensures) (c .before .before .before .before .side-of2 .ensures) (c .before .before .before .side-of3 .ensures) (c .before .before .side-of4 .ensures) (c .before .side-of5 .ensures) (c .side-of6 .ensures)
 
 pub sides-at-spec : {M : Type 1} → statement M
 sides-at-spec =
     tie.close
     (tie.spec
-    level-of-requires
-    add-level-of
-    level-of-requires-2
+    around-of-requires
     sub-along
     along-requires
-    mul-sides-of
-    mul-sides-of-2
-    mul-sides-of-3
-    sides-of-requires
+    mul-t15
+    mul-t15-2
+    mul-t15-3
+    side-of-requires
+    side-of-requires-2
+    side-of-requires-3
+    side-of-requires-4
+    side-of-requires-5
+    side-of-requires-6
     returns)

@@ -1,22 +1,37 @@
--- What the parts of the code promise for an octree.
+-- What the parts of the code ask and give.
 use mathlib.Core.Path.{_≡_}
+use mathlib.Core.Bool.{cond}
 use mathlib.Core.List.{List, [], _∷_}
 use Prim.Native.Nat.{ℕ, _+_, _*_, _≤_, _<_}
-use lib.ListN.{length, getD, take, drop}
+use lib.ListN.{length, getD, take, drop, replicate}
 use Rattle.lists.specs.Runs.{run}
-use Rattle.space.specs.Space.{Axis, ax, ay, az, pos}
-use Rattle.octants.specs.Table.{read}
-use Rattle.vertex_keys.specs.Keys.{tripleOf}
+use Rattle.space.specs.Space.{Axis, ax, ay, az}
+use Rattle.space.specs.Levels.{mostOctants, off}
+use Rattle.vertex_keys.specs.Keys.{mostKeys, tripleOf}
 use Rattle.vertex_keys.specs.Parts.{Lookup}
-use Rattle.sides.specs.Told.{Taken}
-use Rattle.leaves.specs.Leaves.{leafList}
-use mathlib.Core.Bool.{cond}
-use lib.ListN.{replicate}
+use Rattle.plan.specs.Vertices.{dimsOf}
 use Rattle.plan.specs.declared.Plan.{Plan}
+use Rattle.octree.specs.Parts.{rootsOf}
+use Rattle.octree.specs.declared.Roots.{Roots}
+use Rattle.sides.specs.Parts.{Taken}
+use Rattle.leaves.specs.Parts.{leavesIn}
 use Rattle.grid.specs.Grid.{vertexKeys, cellTable, tripleTable, pointTable}
 use Rattle.grid.specs.Step.{cellCount, vertexCount, lacksVertices, resultAfter}
 use Rattle.grid.specs.declared.Gridded.{Gridded}
 use Rattle.grid.specs.declared.Gridded.the-variants.{Done, NoVertices}
+
+-- what is known of a plan that is ready
+pub record Planful (p : Plan) : Type 0 where
+  pub dims-some : (1 ≤ p .nx) × (1 ≤ p .ny) × (1 ≤ p .nz)
+  pub dims-few : (p .nx ≤ 128) × (p .ny ≤ 128) × (p .nz ≤ 128)
+  pub roots-few : 1 ≤ p .levels → (p .nx ≤ 64) × (p .ny ≤ 64) × (p .nz ≤ 64)
+  pub levels-few : p .levels ≤ 5
+  pub octants-are : p .octants ≡ off (dimsOf p) (p .levels)
+  pub octants-few : p .octants ≤ mostOctants
+
+-- the roots of a plan
+abbrev pub rootsIn : Plan → Roots
+rootsIn p = record { nx = p .nx; ny = p .ny; nz = p .nz; levels = p .levels }
 
 -- three entries of a key's triple
 unfoldable pub threeOf : (Axis → ℕ → ℕ) → ℕ → List ℕ
@@ -29,28 +44,28 @@ keyTable g v w = run v (λ i. threeOf g (getD w i 0)) 0
 -- v keys, and room for their vertices
 pub record KeysFit (w : List ℕ) (v : ℕ) (triples points : List ℕ) : Type 0 where
   pub there : v ≤ length w
-  pub small : (i : ℕ) → i < v → getD w i 0 < 549755813888
+  pub small : (i : ℕ) → i < v → getD w i 0 < mostKeys
   pub triple-room : 3 * v ≤ length triples
   pub point-room : 3 * v ≤ length points
 
 -- a split table whose grid is to be numbered, with so many leaves, and work for 10 entries a leaf and one more
-pub record Numberable (s : List ℕ) (nx ny nz l n : ℕ) (w : List ℕ) : Type 0 where
-  pub taken : Taken s nx ny nz l
-  pub octants : length s ≤ 1048576
-  pub leaves : n ≡ length (leafList l (pos nx ny nz) (read (pos nx ny nz) l s))
+pub record Numberable (s : List ℕ) (d : Roots) (n : ℕ) (w : List ℕ) : Type 0 where
+  pub taken : Taken s d
+  pub octants : length s ≤ mostOctants
+  pub leaves : n ≡ length (leavesIn s d)
   pub room : 10 * n < length w
 
 -- the work once the vertices are numbered: their keys and the index of these in front, and the list of leaves behind the room for them
-pub record Ready (s : List ℕ) (nx ny nz l n : ℕ) (w : List ℕ) (v : ℕ) : Type 0 where
+pub record Ready (s : List ℕ) (d : Roots) (n : ℕ) (w : List ℕ) (v : ℕ) : Type 0 where
   pub lookup : Lookup w v
-  pub keys : take v w ≡ vertexKeys l (pos nx ny nz) s
-  pub small : (i : ℕ) → i < v → getD w i 0 < 549755813888
-  pub list : take n (drop (9 * n + 1) w) ≡ leafList l (pos nx ny nz) (read (pos nx ny nz) l s)
+  pub keys : take v w ≡ vertexKeys (d .levels) (rootsOf d) s
+  pub small : (i : ℕ) → i < v → getD w i 0 < mostKeys
+  pub list : take n (drop (9 * n + 1) w) ≡ leavesIn s d
 
 -- an octree whose work is lent whole and whose cells have just the room
 pub record Fillable (p : Plan) (s : List ℕ) (n : ℕ) (C w : List ℕ) : Type 0 where
   pub some : 1 ≤ p .levels
-  pub numberable : Numberable s (p .nx) (p .ny) (p .nz) (p .levels) n w
+  pub numberable : Numberable s (rootsIn p) n w
   pub cells : length C ≡ 4 * cellCount p s
 
 -- stored where there is room for the vertices, and the work left zero

@@ -1,31 +1,39 @@
--- What a listed leaf stands for: its level and place, the keys of its vertices, the numbers of its cells. Assumes nothing: these are definitions.
+-- What the parts of the code ask and give: what a listed leaf stands for, the keys of its vertices, the numbers of its cells.
 use mathlib.Core.Path.{_≡_}
 use mathlib.Core.List.{List, [], _∷_}
-use Prim.Native.Nat.{ℕ, _+_, _*_, _/_, _%_, _^_, _≤_, _<_}
+use Prim.Native.Nat.{ℕ, _+_, _*_, _%_, _^_, _≤_, _<_}
 use lib.ListN.{length, getD, take, drop}
-use Rattle.space.specs.Space.{Axis, Pos, pos}
-use Rattle.octants.specs.Oct.{Tree}
-use Rattle.octants.specs.Table.{read}
-use Rattle.octree_cells.specs.Cells.{overLeaves}
-use Rattle.octree_cells.specs.Vertices.{leafPoints}
 use Rattle.lists.specs.Runs.{run}
-use Rattle.vertex_keys.specs.Keys.{keyOf}
+use Rattle.space.specs.Space.{Axis, Pos}
+use Rattle.space.specs.Levels.{mostLevels, mostAlong}
 use Rattle.sorting.specs.Numbers.{rank}
-use Rattle.leaves.specs.Leaves.{leafList}
-
-abbrev pub levelIn : ℕ → ℕ
-levelIn z = z / 549755813888
-
-abbrev pub placeIn : ℕ → Pos
-placeIn z = pos (z / 67108864 % 8192) (z / 8192 % 8192) (z % 8192)
+use Rattle.vertex_keys.specs.Keys.{mostKeys, keyOf}
+use Rattle.octants.specs.Oct.{Tree, width}
+use Rattle.octree.specs.Parts.{rootsOf, treeOf}
+use Rattle.octree.specs.declared.Roots.{Roots}
+use Rattle.octree_cells.specs.Cells.{Cell, overLeaves, leafCells}
+use Rattle.octree_cells.specs.Leaf.{IsLeaf}
+use Rattle.octree_cells.specs.Vertices.{leafPoints}
+use Rattle.leaves.specs.Parts.{levelIn, placeIn, leavesIn}
 
 -- the leaf is within the bounds of a grid
 pub record Placed (z : ℕ) : Type 0 where
-  pub few : levelIn z ≤ 5
-  pub within : (a : Axis) → placeIn z a * 2 ^ levelIn z ≤ 2048
+  pub few : levelIn z ≤ mostLevels
+  pub within : (a : Axis) → placeIn z a * 2 ^ levelIn z ≤ mostAlong
 
 abbrev pub AllPlaced : List ℕ → ℕ → ℕ → Type 0
 AllPlaced w list n = (j : ℕ) → j < n → Placed (getD w (list + j) 0)
+
+-- it is a leaf, and the cells that it gives
+abbrev pub ListedIn : List ℕ → Roots → ℕ → Type 0
+ListedIn s d z = IsLeaf (d .levels) (rootsOf d) (treeOf d s) (levelIn z) (placeIn z)
+
+abbrev pub cellsOf : List ℕ → Roots → ℕ → List Cell
+cellsOf s d z = leafCells (d .levels) (rootsOf d) (treeOf d s) (levelIn z) (placeIn z)
+
+-- the key of its low corner: its place, in widths
+abbrev pub lowIn : ℕ → ℕ
+lowIn z = z % mostKeys * width (levelIn z)
 
 -- a leaf's centre, and its corners from the high one down
 unfoldable pub nineKeys : (k u v w : ℕ) → List ℕ
@@ -54,7 +62,7 @@ abbrev pub numberIn : List ℕ → ℕ → Pos → ℕ
 numberIn w v p = rank (keyOf p) (take v w)
 
 -- the list of leaves stands in the work from `list` on
-pub record Standing (s : List ℕ) (nx ny nz l : ℕ) (w : List ℕ) (list leaves : ℕ) : Type 0 where
+pub record Standing (s : List ℕ) (d : Roots) (w : List ℕ) (list leaves : ℕ) : Type 0 where
   pub fits : list + leaves ≤ length w
-  pub many : leaves ≡ length (leafList l (pos nx ny nz) (read (pos nx ny nz) l s))
-  pub here : take leaves (drop list w) ≡ leafList l (pos nx ny nz) (read (pos nx ny nz) l s)
+  pub many : leaves ≡ length (leavesIn s d)
+  pub here : take leaves (drop list w) ≡ leavesIn s d
