@@ -1,8 +1,9 @@
 -- Refusals 1 to 4 are given exactly when document 01 says, and a plan has one outcome. Assumes nothing.
-use mathlib.Core.Path.{_≡_, refl}
+use mathlib.Core.Path.{_≡_, refl, subst}
 use mathlib.Core.Bool.{Bool, true, false, not, _&&_, cond}
 use mathlib.Core.Logic.{_↔_}
-use Prim.Native.Nat.{ℕ, _<_}
+use Prim.Native.Nat.{ℕ, _≤_, _<_}
+use native.Mathlib.Omega.{arith}
 use borrow.Author.Tests.{leb-true, leb-false, lt-ltb, le-ltb}
 use lib.Dec.{leb, ltb}
 use lib.Ieee.{Float}
@@ -13,10 +14,11 @@ use Rattle.refusals.specs.Rows.{first, InTurn, caused, lower, rising}
 use Rattle.refusals.proofs.Rows.{in-turn, exactly}
 use Rattle.lists.specs.Tables.{Determined}
 use Rattle.lists.proofs.Lent.{determined}
-use Rattle.plan.specs.Step.{scaleOf, fitsAt, fitsAll, stretchOf, straightBox, onAxis, counted, axesOf, planOf, planRows, numberOf}
+use Rattle.plan.specs.Step.{scaleOf, stretchAt, fitsAt, fitsAll, stretchOf, straightBox, onAxis, counted, axesOf, planOf, planRows, numberOf}
 use Rattle.plan.specs.declared.Bounds.{Bounds}
 use Rattle.plan.specs.declared.Scale.{Scale}
 use Rattle.plan.specs.declared.Plan.{Plan}
+use Rattle.plan.specs.declared.Stretch.{Stretch}
 use Rattle.plan.specs.declared.Stretch.the-variants.{Covers, TooLong}
 use Rattle.plan.specs.declared.Planned.{Planned}
 use Rattle.plan.specs.declared.Planned.the-variants.{Ready, Refused}
@@ -45,6 +47,40 @@ above levels = go (leb levels mostLevels) refl
     go : (t : Bool) → leb levels mostLevels ≡ t → ltb mostLevels levels ≡ not t
     go true e = le-ltb mostLevels levels (leb-true levels mostLevels e)
     go false e = lt-ltb mostLevels levels (leb-false levels mostLevels e)
+
+-- a refusal has a number
+abbrev Told : Planned → Type 0
+Told (Ready p) = Unit
+Told (Refused n) = 1 ≤ n
+
+told-axis : (s : Stretch) (k : Float → ℕ → Planned) → ((o : Float) (n : ℕ) → Told (k o n)) → Told (onAxis s k)
+told-axis TooLong k h = omega arith
+told-axis (Covers o n) k h = h o n
+
+told-cond : (t : Bool) (p q : Planned) → Told p → Told q → Told (cond t p q)
+told-cond true p q g h = g
+told-cond false p q g h = h
+
+told-counted : (p : Plan) → Told (counted p)
+unfolding counted
+told-counted p = told-cond (leb (p .octants) mostOctants) (Ready p) (Refused 4) tt (omega arith)
+
+told-axes : (s : Scale) (b : Bounds) (c : Float) (levels : ℕ) → Told (axesOf s b c levels)
+unfolding axesOf
+told-axes s b c levels =
+    told-axis (stretchAt s b c ax) _ (λ ox nx. told-axis (stretchAt s b c ay) _ (λ oy ny. told-axis (stretchAt s b c az) _ (λ oz nz. told-counted _)))
+
+told-plan : (b : Bounds) (c : Float) (levels : ℕ) → Told (planOf b c levels)
+unfolding planOf
+told-plan b c levels =
+    let p : Planned = axesOf (scaleOf c levels) b c levels in
+    let q : Planned = cond (leb levels mostLevels) p (Refused 3) in
+    let r : Planned = cond (straightBox b) q (Refused 2) in
+    told-cond (positive c) r (Refused 1)
+    (told-cond (straightBox b) q (Refused 2) (told-cond (leb levels mostLevels) p (Refused 3) (told-axes (scaleOf c levels) b c levels) (omega arith)) (omega arith)) (omega arith)
+
+pub refused-some : (b : Bounds) (c : Float) (levels n : ℕ) → planOf b c levels ≡ Refused n → 1 ≤ n
+refused-some b c levels n e = subst Told e (told-plan b c levels)
 
 module _ (b : Bounds) (c : Float) (levels : ℕ) where
   -- the number is that of the first row whose cause is there

@@ -4,6 +4,7 @@ use mathlib.Core.Logic.{_↔_}
 use mathlib.Core.Bool.{Bool, true, false, cond}
 use mathlib.Core.List.{List, [], _∷_, _++_, append-nil}
 use Prim.Native.Nat.{ℕ, _<_}
+use native.Mathlib.Omega.{arith}
 use lib.Dec.{ltb}
 use lib.Ieee.{Float}
 use lib.ListN.{length, drop}
@@ -90,6 +91,22 @@ module _ (b : Bounds) (c : Float) (levels : ℕ) (C o : List ℕ) where
         rw split-is
         (least-agree l d (read d l (splitOf p C)) (read d l (splitOf p C ++ r)) (front-agree d l (splitOf p C) r (length-levels d l _ l)) (read d l C) (λ x. refl)
         (table-least d l C))
+
+  -- demand 3 from the contract: where the number is 0 there is a plan, and the split table at exit is the least refinement of the crossing table
+  pub refine-least : {r : Refined} {o′ : List ℕ} → RefineDone b c levels C o r o′ → numberOf r ≡ 0
+      → (p : Plan) × (planOf b c levels ≡ planned.Ready p) × LeastRefinement (p .levels) (dimsOf p) (read (dimsOf p) (p .levels) C) (read (dimsOf p) (p .levels) o′)
+  unfolding refinedOf
+  refine-least {r} {o′} h z = go (planOf b c levels) refl
+    where
+      z′ : numberOf (refinedOf b c levels C o) ≡ 0
+      z′ = sym (ap numberOf (h .answer)) ∙ z
+
+      go : (a : Planned) → planOf b c levels ≡ a
+          → (p : Plan) × (planOf b c levels ≡ planned.Ready p) × LeastRefinement (p .levels) (dimsOf p) (read (dimsOf p) (p .levels) C) (read (dimsOf p) (p .levels) o′)
+      go (planned.Ready p) e = (p, e, rw (h .split) (demand-3 p e z′))
+      go (planned.Refused n) e =
+          let y : n ≡ 0 = rw e at z′ in
+          absurd (omega (arith, refusals.refused-some b c levels n e))
 
 -- the Rust's balance of the octree that the answers split: its rounds over a snapshot end, and wherever they end is our split table
 module _ (p : Plan) (C : List ℕ) where
