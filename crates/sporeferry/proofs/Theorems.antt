@@ -19,7 +19,7 @@ use Rattle.representatives.specs.Step.{RepresentativesDone}
 use Rattle.representatives.proofs.Theorems.{representatives-one}
 use Rattle.marked.specs.declared.Kept.{Kept}
 use Rattle.keep.specs.Step.{KeepDone, coverOf, coverCells, crustOf, crustCells}
-use Rattle.keep.proofs.Meaning.{cover-one, crust-one}
+use Rattle.keep.proofs.Theorems.{cover-one, crust-one}
 use Rattle.components.specs.declared.OnePiece.{OnePiece}
 use Rattle.components.specs.Step.{ComponentsDone, OnePieceDone}
 use Rattle.components.proofs.Theorems.{components-one, one-piece-one}
