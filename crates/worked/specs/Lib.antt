@@ -1,4 +1,2 @@
 -- The worked numbers of document 01.
-pub mod Octree
-pub mod Refinement
 pub mod Worked

@@ -7,13 +7,14 @@ use Prim.Native.Nat.{ℕ, zero, suc, _+_, _*_, _-_, _/_, _%_, _^_, _<_}
 use native.Mathlib.Omega.{arith}
 use native.Mathlib.Nat.{zero-div, zero-mod, div-one, div-div-eq-div-mul, pow-succ', pow-zero}
 use lib.Dec.{eqb, ltb}
-use lib.ListN.{getD, replicate, set}
+use lib.ListN.{getD}
 use borrow.Author.Tests.{ltb-true}
-use Rattle.space.specs.Space.{Pos, pos}
+use Rattle.space.specs.Space.{Pos}
 use Rattle.lists.specs.Tests.{any}
 use Rattle.octants.specs.Oct.{Tree, balanced, near, rawFrom, refined}
 use Rattle.lists.proofs.Bools.{and-both}
 use Rattle.space.specs.Levels.{off, depth}
+use Rattle.worked.specs.Worked.{six, rootAndChild, childAlone, Splits}
 use Rattle.octants.specs.Table.{slot, read, total, refineOf, tab, levels, table}
 
 unfoldable areBits : List ℕ → Bool
@@ -49,21 +50,6 @@ read-packed d l s h = fun-ext (λ m. fun-ext (λ x. go m x))
     go : (m : ℕ) (x : Pos) → read d l s m x ≡ readPacked d l (packed s) m x
     go zero x = refl
     go (suc m) x = ap (λ (n : ℕ). eqb n 1) (packed-at s h (off d (l - suc m) + slot (depth d (l - suc m)) x))
-
-abbrev six : Pos
-six = pos 6 6 6
-
--- 216 roots and 1,728 octants of level 1: root (2, 2, 2) and level-1 octant (4, 4, 4) crossed
-abbrev pub rootAndChild : List ℕ
-rootAndChild = set (set (replicate 1944 0) (slot six (pos 2 2 2)) 1) (216 + slot (depth six 1) (pos 4 4 4)) 1
-
--- the level-1 octant alone
-abbrev pub childAlone : List ℕ
-childAlone = set (replicate 1944 0) (216 + slot (depth six 1) (pos 4 4 4)) 1
-
--- how many octants are split, and the byte of root (1, 1, 1)
-abbrev pub Splits : List ℕ → ℕ → ℕ → Type 0
-Splits s ones byte = (total s ≡ ones) × (getD s (slot six (pos 1 1 1)) 0 ≡ byte)
 
 by-number : (s : List ℕ) (n : ℕ) → areBits s ≡ true → packed s ≡ n → table six 2 (refined 2 six (readPacked six 2 n)) ≡ refineOf six 2 s
 by-number s n h e = sym (ap (λ (c : Tree). table six 2 (refined 2 six c)) (read-packed six 2 s h ∙ ap (readPacked six 2) e))

@@ -1,0 +1,4 @@
+-- The worked numbers are those of the definitions.
+pub mod Octree
+pub mod Refinement
+pub mod Theorems

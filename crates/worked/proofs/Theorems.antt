@@ -1,0 +1,28 @@
+-- The numbers of document 01's "Worked numbers" that are marked (P) are those of the definitions: one theorem over one table. Assumes nothing.
+use mathlib.Core.Path.{refl}
+use lib.Ieee.{add, sub, mul, div, neg, lt, ofInt, ofBits}
+use Rattle.float32.specs.Ceiling.{ceilTo}
+use Rattle.space.specs.Levels.{off}
+use Rattle.plan.specs.Step.{allFinite, scaleOf, dimOf, fitsOn, stretchOf, straight, straightBox, counted, axesOf, planOf}
+use Rattle.lists.specs.Runs.{run, those}
+use Rattle.lists.specs.Appearance.{place, noted, seenOf, numbersOf}
+use Rattle.lists.specs.Tests.{any}
+use Rattle.links.specs.Labels.{shares, touched, takenOver, addCell, labels, labelAt}
+use Rattle.components.specs.Numbers.{componentNumbers}
+use Rattle.representatives.specs.Highest.{isHighest, representativesOf}
+use Rattle.mesh.specs.Mesh.{cellOf, inOrder}
+use Rattle.volume.specs.Cell.{pointOf, cornersOf}
+use Rattle.volume.specs.Volume.{volumeOf, sizeOf, verdictOf, verdictAt}
+use Rattle.marked.specs.Weighed.{shaped, shapeAt, finalCells}
+use Rattle.marked.specs.Used.{firstUses, usedOf, renumbered}
+use Rattle.octree_cells.specs.Cells.{flat}
+use Rattle.lattice.specs.Lattice.{boxUp, latticeVertices, indexOf, inRange, complete, octahedron, axisCells, centreCells, latticeCells}
+use Rattle.worked.specs.Worked.{Every, done, row, Says, table}
+use Rattle.worked.proofs.Octree.{none-split, octree-six}
+use Rattle.worked.proofs.Refinement.{root-and-child, child-alone}
+
+pub worked : Every Says table
+unfolding Says table ofBits add sub mul div neg lt ofInt ceilTo allFinite scaleOf dimOf fitsOn stretchOf off straight straightBox counted axesOf planOf run those place noted seenOf numbersOf any shares touched takenOver addCell labels labelAt componentNumbers isHighest representativesOf cellOf inOrder pointOf cornersOf volumeOf sizeOf verdictOf verdictAt shaped shapeAt finalCells firstUses usedOf renumbered boxUp latticeVertices indexOf inRange complete octahedron axisCells centreCells latticeCells flat
+worked =
+    row refl (row refl (row refl (row refl (row refl (row none-split (row octree-six (row refl (row root-and-child (row child-alone
+    (row refl (row refl (row refl (row refl (row refl (row refl (row refl (row refl (row refl done))))))))))))))))))
