@@ -1,4 +1,4 @@
--- The grid of a plan and a split table, octree or lattice: its cells, its vertices, and their numbers, as document 01 ("Cells") has them. l are the levels, d
+-- The grid of a plan and a split table, octree or lattice: its cells, its vertices, and their numbers, as sections 4 to 6 of the rules have them. l are the levels, d
 -- the dimensions, s is the split table.
 use mathlib.Core.List.{List, map}
 use Prim.Native.Nat.{ℕ, zero, suc}

@@ -1,4 +1,4 @@
--- The step grid as document 01 has it: what is refused and why, what is answered, and what the lent tables hold after. s is the split table; C, T, P and
+-- The step grid (rules 5.3, 11.8): what is refused and why, what is answered, and what the lent tables hold after. s is the split table; C, T, P and
 -- w are the tables of cells, triples, points and work, as lent.
 use mathlib.Core.Path.{_≡_}
 use mathlib.Core.Bool.{Bool, cond, not, _||_}
@@ -55,7 +55,7 @@ abbrev pub gridRows : Bounds → Float → ℕ → List ℕ → (C T P w : List 
 gridRows b c levels s C T P w =
     planRows b c levels ++ onPlan (planOf b c levels) (λ n. []) (λ p. tableRows p s (length C) (length T) (length P) (length w))
 
--- document 01's number and values of each answer
+-- the number and values of each answer: rules 11.3, 11.4
 abbrev pub gridNumber : Gridded → ℕ
 gridNumber (Done cells vertices) = 0
 gridNumber (Refused number) = number

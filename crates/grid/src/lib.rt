@@ -15,7 +15,7 @@ use plan::Bounds;
 use plan::Plan;
 use plan::Planned;
 
-// The outcome of `grid`: how many cells and vertices there are; refused, with document 01's number; no room or work for so many cells;
+// The outcome of `grid`: how many cells and vertices there are; refused, with its number; no room or work for so many cells;
 // no room for so many vertices.
 pub enum Gridded {
     Done(u64, u64),

@@ -1,4 +1,4 @@
--- Which cells are kept: document 01, "Keeping". C is the table of cells, X that of crossing answers, Q that of probe answers, n the number
+-- Which cells are kept: rule 7.5. C is the table of cells, X that of crossing answers, Q that of probe answers, n the number
 -- of cells.
 use mathlib.Core.Bool.{Bool, not, _||_}
 use mathlib.Core.List.{List}

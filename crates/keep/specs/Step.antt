@@ -1,4 +1,4 @@
--- The two steps as document 01 has them: what is refused and why, what is answered, and what the lent tables hold after. P is the table of
+-- The two steps (rules 7.5 to 7.11): what is refused and why, what is answered, and what the lent tables hold after. P is the table of
 -- points, C that of cells, X that of crossing answers, Q that of probe answers, p and q the tables for points and cells kept, w the work.
 use mathlib.Core.Path.{_≡_}
 use mathlib.Core.Bool.{not}

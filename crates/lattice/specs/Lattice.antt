@@ -1,4 +1,4 @@
--- The lattice, as document 01 ("Cells", lattice) and the Rust's Lattice, coords, index and lattice_tetrahedra have it, on integer triples. Assumes
+-- The lattice, as section 6 of the rules and the Rust's Lattice, coords, index and lattice_tetrahedra have it, on integer triples. Assumes
 -- nothing: these are definitions. d are the dimensions.
 use mathlib.Core.Path.{_≡_}
 use mathlib.Core.Bool.{Bool, cond, _&&_}

@@ -12,7 +12,7 @@ use Rattle.marked.specs.Used.{usedOf, renumbered, pointsAt}
 use Rattle.marked.specs.declared.Kept.{Kept}
 use Rattle.marked.specs.declared.Kept.the-variants.{Done, Refused, Short, Nothing}
 
--- document 01's number and values of each answer
+-- the number and values of each answer: rules 11.3, 11.4
 abbrev pub numberOf : Kept → ℕ
 numberOf (Done points cells dropped) = 0
 numberOf (Refused number) = number

@@ -1,4 +1,4 @@
--- The marked cells as their verdicts leave them: document 01, "Keeping". P is the table of points, C that of cells, n the number of cells.
+-- The marked cells as their verdicts leave them: rules 7.8 and 7.9. P is the table of points, C that of cells, n the number of cells.
 use mathlib.Core.Bool.{Bool, true, false, cond, _&&_}
 use mathlib.Core.List.{List, []}
 use Prim.Native.Nat.{ℕ}

@@ -11,7 +11,7 @@ use lists::wide;
 use mesh::Cell;
 use volume::Verdict;
 
-// The outcome of keeping: points, cells, and cells dropped; refused, with document 01's number; no room for so many points and cells;
+// The outcome of keeping: points, cells, and cells dropped; refused, with its number; no room for so many points and cells;
 // nothing kept.
 pub enum Kept {
     Done(u64, u64, u64),

@@ -1,4 +1,4 @@
--- A mesh as document 01 has it: a table of points, three numbers a point, and a table of cells, four points a cell.
+-- A mesh (rules 1.10, 1.11): a table of points, three numbers a point, and a table of cells, four points a cell.
 use mathlib.Core.Path.{_≡_}
 use mathlib.Core.List.{List, [], _∷_}
 use Prim.Native.Nat.{ℕ, _+_, _*_, _/_, _≤_, _<_}

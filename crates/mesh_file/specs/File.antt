@@ -1,4 +1,4 @@
--- The mesh file as document 01 has it: three sections, each after its count, in words whose low byte is first.
+-- The mesh file (rule 9.1): three sections, each after its count, in words whose low byte is first.
 -- b is the list of a file's bytes; an entry of a section has w words: 3 a point, 4 a cell, 1 a component number.
 use mathlib.Core.Path.{_≡_}
 use mathlib.Core.Bool.{Bool, true, false, _||_}

@@ -1,4 +1,4 @@
--- `read_mesh` as document 01 has it. b is the file, x the table of points, y that of cells and w the work table, as lent.
+-- `read_mesh` (rules 9.3 to 9.5). b is the file, x the table of points, y that of cells and w the work table, as lent.
 use mathlib.Core.Path.{_≡_}
 use mathlib.Core.Bool.{Bool, cond, not, _||_}
 use mathlib.Core.List.{List, [], _∷_, _++_}
@@ -48,7 +48,7 @@ fileRows b =
 unfoldable pub shortOf : ℕ → ℕ → ℕ → ℕ → ℕ → Bool
 shortOf points cells work many n = ltb (points / 3) many || (ltb (cells / 4) n || ltb work (2 * many))
 
--- document 01's number and values of each answer
+-- the number and values of each answer: rules 11.3, 11.4
 abbrev pub loadedNumber : Loaded → ℕ
 loadedNumber (loaded.Done points cells) = 0
 loadedNumber (loaded.Refused number) = number

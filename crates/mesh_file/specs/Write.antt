@@ -1,4 +1,4 @@
--- `write_mesh` as document 01 has it: the writer whose file is `encode`.
+-- `write_mesh` (rule 9.2): the writer whose file is `encode`.
 use mathlib.Core.List.{List}
 use Prim.Native.Nat.{ℕ, _+_, _*_}
 use Rattle.mesh.specs.Mesh.{pointsOf, cellsOf}

@@ -1,4 +1,4 @@
--- A writer of meshes, whatever its format, as document 01 has it: n are the bytes that the file of the mesh takes, f is the file. P is the table of
+-- A writer of meshes, whatever its format (rule 9.2): n are the bytes that the file of the mesh takes, f is the file. P is the table of
 -- points, C that of cells, o the file's table and w the work table, as lent.
 use mathlib.Core.Path.{_≡_}
 use mathlib.Core.Bool.{cond}
@@ -19,7 +19,7 @@ use Rattle.mesh_file.specs.declared.Written.the-variants as written
 abbrev pub writeRows : ℕ → List ℕ → List ℕ → List ℕ → List ℕ → List Row
 writeRows n P C o w = meshRows (length P) C (length w) 0 2 ++ roomRows (length o) n
 
--- document 01's number and values of each answer
+-- the number and values of each answer: rules 11.3, 11.4
 abbrev pub writtenNumber : Written → ℕ
 writtenNumber (written.Done bytes) = 0
 writtenNumber (written.Refused number) = number

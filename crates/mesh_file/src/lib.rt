@@ -10,14 +10,14 @@ ghost use Rattle.mesh_file.specs.Writer.{Placed, Storable};
 ghost use Rattle.mesh_file.specs.Write.{bytesFor, WriteDone};
 ghost use Rattle.mesh_file.specs.Read.{sectionRows, fileRows, shortOf, Sound, Matched, ReadDone};
 
-// The outcome of a writer: the bytes written; refused, with document 01's number; no room for so many bytes.
+// The outcome of a writer: the bytes written; refused, with its number; no room for so many bytes.
 pub enum Written {
     Done(u64),
     Refused(u32),
     Short(u64),
 }
 
-// The outcome of `read_mesh`: points and cells read; refused, with document 01's number; no room for so many points and cells.
+// The outcome of `read_mesh`: points and cells read; refused, with its number; no room for so many points and cells.
 pub enum Loaded {
     Done(u64, u64),
     Refused(u32),

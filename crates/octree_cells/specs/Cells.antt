@@ -1,4 +1,4 @@
--- The cells of an octree grid, as document 01 ("Cells", octree) and the Rust's leaf_cells have them, on integer triples. Assumes nothing: these are
+-- The cells of an octree grid, as section 4 of the rules and the Rust's leaf_cells have them, on integer triples. Assumes nothing: these are
 -- definitions. The Rust's names: width, corner, center, face_corners, face_center, covering_leaf, has_finer_vertex, leaf_cells, leaves.
 use mathlib.Core.Bool.{Bool, true, false, cond, not, _&&_}
 use mathlib.Core.List.{List, [], _∷_, _++_}
@@ -151,7 +151,7 @@ fan fine p q f =
 unfoldable pub halves : Pos → Face → List Cell
 halves c f = cell c (f .p0) (f .p1) (f .p2) ∷ cell c (f .p0) (f .p2) (f .p3) ∷ []
 
--- the cells that a leaf gives at a face, by what stands beside it: the three cases of document 01, of which the last has two
+-- the cells that a leaf gives at a face, by what stands beside it: rules 4.4, 4.5, 4.7 and 4.8
 unfoldable pub cellsTo : (Pos → Bool) → ℕ → Pos → Axis → Bool → Side → List Cell
 cellsTo fine m x a s split = fan fine (faceCentre (face m x a s)) (centre m x) (face m x a s)
 cellsTo fine m x a false equal = []

@@ -1,4 +1,4 @@
--- Refusals 1 to 4 are given exactly when document 01 says, and a plan has one outcome. Assumes nothing.
+-- Refusals 1 to 4 are given exactly when rules 11.1 and 11.6 say, and a plan has one outcome. Assumes nothing.
 use mathlib.Core.Path.{_≡_, refl, subst}
 use mathlib.Core.Bool.{Bool, true, false, not, _&&_, cond}
 use mathlib.Core.Logic.{_↔_}

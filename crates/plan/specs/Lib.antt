@@ -1,4 +1,4 @@
--- The plan of a grid: document 01, "Plan" and "Numbers that bound a call".
+-- The plan of a grid: sections 2 and 10 of the rules.
 pub mod Step
 pub mod Parts
 pub mod Vertices

@@ -131,7 +131,7 @@ planOf b c levels =
     (cond (straightBox b) (cond (leb levels mostLevels) (axesOf (scaleOf c levels) b c levels) (Refused 3)) (Refused 2))
     (Refused 1)
 
--- document 01's number and values of each answer
+-- the number and values of each answer: rules 11.3, 11.4
 abbrev pub numberOf : Planned → ℕ
 numberOf (Ready p) = 0
 numberOf (Refused n) = n

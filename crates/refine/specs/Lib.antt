@@ -1,3 +1,3 @@
--- Refine: document 01, "Octree".
+-- Refine: section 3 of the rules.
 pub mod Step
 pub mod Parts

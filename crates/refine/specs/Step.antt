@@ -1,4 +1,4 @@
--- The step refine as document 01 has it: what is refused and why, what is answered, and what the split table holds after.
+-- The step refine (rules 3.9, 11.7): what is refused and why, what is answered, and what the split table holds after.
 -- C is the crossing table and o the split table, as lent.
 use mathlib.Core.Path.{_≡_}
 use mathlib.Core.Bool.{cond}
@@ -26,7 +26,7 @@ roomRows n o = 9 when ltb (length o) n ∷ []
 abbrev pub refineRows : Bounds → Float → ℕ → List ℕ → List ℕ → List Row
 refineRows b c levels C o = planRows b c levels ++ onPlan (planOf b c levels) (λ n. []) (λ p. answerRows (p .octants) C ++ roomRows (p .octants) o)
 
--- document 01's number and values of each answer
+-- the number and values of each answer: rules 11.3, 11.4
 abbrev pub numberOf : Refined → ℕ
 numberOf (Done ones) = 0
 numberOf (Refused number) = number

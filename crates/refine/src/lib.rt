@@ -13,7 +13,7 @@ use plan::Bounds;
 use plan::Plan;
 use plan::Planned;
 
-// The outcome of `refine`: how many octants are split; refused, with document 01's number; no room for so many octants.
+// The outcome of `refine`: how many octants are split; refused, with its number; no room for so many octants.
 pub enum Refined {
     Done(u64),
     Refused(u32),

@@ -1,4 +1,4 @@
--- Document 01's number and values of an outcome that counts.
+-- The number and values of an outcome that counts: rules 11.3, 11.4.
 use mathlib.Core.List.{List, [], _∷_}
 use Prim.Native.Nat.{ℕ}
 use Rattle.refusals.specs.declared.Counted.{Counted}

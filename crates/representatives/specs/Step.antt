@@ -1,4 +1,4 @@
--- The step `representatives` as document 01 has it: what is refused and why, what is answered, and what the lent tables hold after.
+-- The step `representatives` (rules 7.2, 7.3): what is refused and why, what is answered, and what the lent tables hold after.
 -- P is the table of points, C that of cells, X that of crossing answers, o that of numbers, z that of centroids, w the work, as lent.
 use mathlib.Core.Path.{_≡_}
 use mathlib.Core.Bool.{cond}

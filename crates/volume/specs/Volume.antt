@@ -25,7 +25,7 @@ crossOf u v =
 abbrev pub dotOf : Point → Point → Float
 dotOf u v = u .x *f v .x +f u .y *f v .y +f u .z *f v .z
 
--- document 01, "Volume": ((b - a) × (c - a)) · (d - a) / 6
+-- rule 7.6: ((b - a) × (c - a)) · (d - a) / 6
 unfoldable pub volumeOf : Corners → Float
 volumeOf k = dotOf (crossOf (minusOf (k .b) (k .a)) (minusOf (k .c) (k .a))) (minusOf (k .d) (k .a)) /f f32 0x40c0_0000
 

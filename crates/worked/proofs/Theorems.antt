@@ -1,4 +1,4 @@
--- The numbers of document 01's "Worked numbers" that are marked (P) are those of the definitions: one theorem over one table. Assumes nothing.
+-- The worked numbers of section 13 of the rules that are marked (P) are those of the definitions: one theorem over one table. Assumes nothing.
 use mathlib.Core.Path.{refl}
 use lib.Ieee.{add, sub, mul, div, neg, lt, ofInt, ofBits}
 use Rattle.float32.specs.Ceiling.{ceilTo}

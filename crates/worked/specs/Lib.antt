@@ -1,2 +1,2 @@
--- The worked numbers of document 01.
+-- The worked numbers: section 13 of the rules.
 pub mod Worked

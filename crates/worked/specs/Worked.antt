@@ -1,4 +1,4 @@
--- The numbers of document 01's "Worked numbers" that are marked (P): one table, one theorem about the definitions.
+-- The worked numbers of section 13 of the rules that are marked (P): one table, one theorem about the definitions.
 use mathlib.Core.Path.{_≡_}
 use mathlib.Core.Bool.{true}
 use mathlib.Core.List.{List, [], _∷_}

@@ -1,4 +1,4 @@
-// Runs worked numbers of document 01 that are not in the proved table, and prints a line for each: the number of the refusal, and for
+// Runs worked numbers of section 13 of the rules that are not in the proved table, and prints a line for each: the number of the refusal, and for
 // a plan the x origin and the unit as bit patterns, the dimensions and the octants.
 use libc::STDOUT_FILENO;
 use plan::Bounds;
