@@ -1,4 +1,3 @@
 -- The split table of an octree as code meets it.
 pub mod Parts
 pub mod Sweep
-pub mod Rows

@@ -2,7 +2,7 @@
 -- floats is one of binary32, in the order written.
 use Prim.Native.Nat.{ℕ, _*_, _^_, max}
 use mathlib.Core.Bool.{Bool, not, _&&_, cond}
-use mathlib.Core.List.{List, [], _∷_}
+use mathlib.Core.List.{List, [], _∷_, _++_}
 use lib.Dec.{leb, ltb, eqb}
 use lib.Ieee.{Float, binary32, neg, lt}
 use lib.Ieee.Scale.{finite}
@@ -160,11 +160,15 @@ dimsAt s b c = pos (dimAt s b c ax) (dimAt s b c ay) (dimAt s b c az)
 unfoldable pub fitsAll : Scale → Bounds → Float → ℕ → Bool
 fitsAll s b c levels = fitsAt s b c ax && (fitsAt s b c ay && (fitsAt s b c az && leb (off (dimsAt s b c) levels) mostOctants))
 
+-- c is not the size of a cell
+abbrev pub cellSizeRows : Float → List Row
+cellSizeRows c = 1 when not (positive c) ∷ []
+
 -- refusals 1 to 4, in their order, each with its cause
 unfoldable pub planRows : Bounds → Float → ℕ → List Row
 planRows b c levels =
-    1 when not (positive c)
-    ∷ 2 when not (straightBox b)
+    cellSizeRows c
+    ++ 2 when not (straightBox b)
     ∷ 3 when ltb mostLevels levels
     ∷ 4 when not (fitsAll (scaleOf c levels) b c levels)
     ∷ []

@@ -8,7 +8,8 @@ use native.Mathlib.Omega.{arith}
 use lib.Dec.{ltb}
 use lib.Ieee.{Float}
 use lib.ListN.{length, drop}
-use Rattle.refusals.specs.Rows.{_when_, first, InTurn, proper, rising, caused, lower}
+use Rattle.refusals.specs.Rows.{first, InTurn, proper, rising, caused, lower}
+use Rattle.refusals.specs.Causes.{eachRows, answerRows, roomRows}
 use Rattle.lists.specs.Tables.{front, on, Determined}
 use Rattle.refusals.proofs.Rows.{number-rows, goes-on, in-turn, exactly}
 use Rattle.lists.proofs.Lent.{as-new, determined}
@@ -28,19 +29,18 @@ use Rattle.octants.specs.Demand.{LeastRefinement}
 use Rattle.octants.proofs.DemandTable.{least-agree, table-least, front-agree}
 use Rattle.octants.specs.Rounds.{Rounds}
 use Rattle.octants.proofs.Rounds.{rounds-refined, rounds-table}
-use Rattle.octree.specs.Rows.{answerRows}
-use Rattle.refine.specs.Step.{roomRows, refineRows, numberOf, splitOf, answerFor, refinedOf, splitAfter, RefineDone}
+use Rattle.refine.specs.Step.{crossingRows, refineRows, numberOf, splitOf, answerFor, refinedOf, splitAfter, RefineDone}
 use Rattle.refine.specs.declared.Refined.{Refined}
 use Rattle.refine.specs.declared.Refined.the-variants.{Done, Refused, Short}
 
-answer-number : (p : Plan) (C o : List ℕ) → numberOf (answerFor p C o) ≡ first (answerRows (p .octants) C ++ roomRows (p .octants) o)
-unfolding answerFor
+answer-number : (p : Plan) (C o : List ℕ) → numberOf (answerFor p C o) ≡ first (crossingRows (p .octants) C ++ roomRows (length o) (p .octants))
+unfolding answerFor first roomRows
 answer-number p C o =
-    number-rows numberOf Refused _ (answerRows (p .octants) C) (roomRows (p .octants) o) (unfold proper in unfold answerRows in refl) (λ k. refl) (last (ltb (length o) (p .octants)))
+    number-rows numberOf Refused _ (crossingRows (p .octants) C) (roomRows (length o) (p .octants)) (unfold proper in unfold crossingRows in unfold eachRows in unfold answerRows in refl) (λ k. refl) (last (ltb (length o) (p .octants)))
   where
-    last : (t : Bool) → numberOf (cond t (Short (p .octants)) (Done (total (splitOf p C)))) ≡ first (9 when t ∷ [])
-    last true = unfold first in refl
-    last false = unfold first in refl
+    last : (t : Bool) → numberOf (cond t (Short (p .octants)) (Done (total (splitOf p C)))) ≡ cond t 9 0
+    last true = refl
+    last false = refl
 
 module _ (b : Bounds) (c : Float) (levels : ℕ) (C o : List ℕ) where
   -- the number is that of the first row whose cause is there
@@ -49,8 +49,8 @@ module _ (b : Bounds) (c : Float) (levels : ℕ) (C o : List ℕ) where
   number-is = go (planOf b c levels) (refusals.number-is b c levels)
     where
       go : (a : Planned) → plan.numberOf a ≡ first (planRows b c levels)
-          → numberOf (onPlan a Refused (λ p. answerFor p C o)) ≡ first (planRows b c levels ++ onPlan a (λ n. []) (λ p. answerRows (p .octants) C ++ roomRows (p .octants) o))
-      go (planned.Ready p) e = answer-number p C o ∙ sym (goes-on (planRows b c levels) (answerRows (p .octants) C ++ roomRows (p .octants) o) (unfold proper in unfold planRows in refl) e refl)
+          → numberOf (onPlan a Refused (λ p. answerFor p C o)) ≡ first (planRows b c levels ++ onPlan a (λ n. []) (λ p. crossingRows (p .octants) C ++ roomRows (length o) (p .octants)))
+      go (planned.Ready p) e = answer-number p C o ∙ sym (goes-on (planRows b c levels) (crossingRows (p .octants) C ++ roomRows (length o) (p .octants)) (unfold proper in unfold planRows in refl) e refl)
       go (planned.Refused n) e = e ∙ ap first (sym (append-nil (planRows b c levels)))
 
   -- a number is given exactly when a row of this number has its cause and no row before it has one
@@ -62,8 +62,8 @@ module _ (b : Bounds) (c : Float) (levels : ℕ) (C o : List ℕ) where
       → (numberOf (refinedOf b c levels C o) ≡ k) ↔ ((caused k (refineRows b c levels C o) ≡ true) × (lower k (refineRows b c levels C o) ≡ false))
   refine-exactly = exactly (refineRows b c levels C o) (rise (planOf b c levels)) number-is
     where
-      rise : (a : Planned) → rising 1 (planRows b c levels ++ onPlan a (λ n. []) (λ p. answerRows (p .octants) C ++ roomRows (p .octants) o)) ≡ true
-      rise (planned.Ready p) = unfold rising in unfold planRows in unfold answerRows in refl
+      rise : (a : Planned) → rising 1 (planRows b c levels ++ onPlan a (λ n. []) (λ p. crossingRows (p .octants) C ++ roomRows (length o) (p .octants))) ≡ true
+      rise (planned.Ready p) = unfold rising in unfold planRows in unfold crossingRows in unfold eachRows in unfold answerRows in unfold roomRows in refl
       rise (planned.Refused n) = unfold rising in unfold planRows in refl
 
   -- the contract allows one outcome

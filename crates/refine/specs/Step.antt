@@ -7,24 +7,24 @@ use Prim.Native.Nat.{ℕ}
 use lib.Dec.{ltb}
 use lib.Ieee.{Float}
 use lib.ListN.{length}
-use Rattle.refusals.specs.Rows.{Row, _when_, first, unless}
+use Rattle.refusals.specs.Rows.{Row, first, unless}
+use Rattle.refusals.specs.Causes.{eachRows, answerRows, roomRows}
 use Rattle.lists.specs.Tables.{front, on}
 use Rattle.plan.specs.Step.{planOf, planRows, onPlan}
 use Rattle.plan.specs.Vertices.{dimsOf}
 use Rattle.plan.specs.declared.Bounds.{Bounds}
 use Rattle.plan.specs.declared.Plan.{Plan}
 use Rattle.octants.specs.Table.{refineOf, total}
-use Rattle.octree.specs.Rows.{answerRows}
 use Rattle.refine.specs.declared.Refined.{Refined}
 use Rattle.refine.specs.declared.Refined.the-variants.{Done, Refused, Short}
 
--- 9: the split table has no room for n octants
-abbrev pub roomRows : ℕ → List ℕ → List Row
-roomRows n o = 9 when ltb (length o) n ∷ []
+-- a crossing table for n octants
+unfoldable pub crossingRows : ℕ → List ℕ → List Row
+crossingRows n C = eachRows n (length C) ++ answerRows C
 
 -- the refusals with their causes, the lowest number first: those of the plan, and where there is a plan, those of the two tables
 abbrev pub refineRows : Bounds → Float → ℕ → List ℕ → List ℕ → List Row
-refineRows b c levels C o = planRows b c levels ++ onPlan (planOf b c levels) (λ n. []) (λ p. answerRows (p .octants) C ++ roomRows (p .octants) o)
+refineRows b c levels C o = planRows b c levels ++ onPlan (planOf b c levels) (λ n. []) (λ p. crossingRows (p .octants) C ++ roomRows (length o) (p .octants))
 
 -- the number and values of each answer: rules 11.3, 11.4
 abbrev pub numberOf : Refined → ℕ
@@ -44,7 +44,7 @@ splitOf p C = refineOf (dimsOf p) (p .levels) C
 -- refused, short of room, or so many ones
 unfoldable pub answerFor : Plan → List ℕ → List ℕ → Refined
 answerFor p C o =
-    unless (first (answerRows (p .octants) C)) Refused
+    unless (first (crossingRows (p .octants) C)) Refused
     (cond (ltb (length o) (p .octants)) (Short (p .octants)) (Done (total (splitOf p C))))
 
 unfoldable pub refinedOf : Bounds → Float → ℕ → List ℕ → List ℕ → Refined

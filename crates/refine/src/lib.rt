@@ -5,9 +5,8 @@ ghost use lib.ListN.{length};
 ghost use Rattle.refusals.specs.Rows.{first};
 ghost use Rattle.space.specs.Levels.{mostOctants};
 ghost use Rattle.octants.specs.Table.{total};
-ghost use Rattle.octree.specs.Rows.{answerRows};
 ghost use Rattle.refine.specs.Parts.{TableAsked, TableDone};
-ghost use Rattle.refine.specs.Step.{RefineDone};
+ghost use Rattle.refine.specs.Step.{crossingRows, RefineDone};
 use octree::Roots;
 use plan::Bounds;
 use plan::Plan;
@@ -32,12 +31,6 @@ fn copy(to: &mut [u8], from: &[u8])
     }
 }
 
-fn wide(b: u8) -> usize
-    ensures { λ r. ⌜ (r ≡ b) × (r ≤ 255) ⌝ }
-{
-    b as usize
-}
-
 // The sum of the bytes of a table: the number of ones where they are 0 or 1.
 fn ones(s: &[u8]) -> usize
     requires { ⌜ length (now s) ≤ mostOctants ⌝ }
@@ -46,7 +39,7 @@ fn ones(s: &[u8]) -> usize
     let mut sum = 0;
     let mut i = 0;
     while i < s.len() {
-        sum += wide(s[i]);
+        sum += lists::wide8(s[i]);
         i += 1;
     }
     sum
@@ -54,7 +47,7 @@ fn ones(s: &[u8]) -> usize
 
 // The number that a crossing table for n octants is refused with: 5, 6, or 0.
 fn judge(crossing: &[u8], n: usize) -> u32
-    ensures { λ r. ⌜ r ≡ first (answerRows n (now (crossing .entry))) ⌝ }
+    ensures { λ r. ⌜ r ≡ first (crossingRows n (now (crossing .entry))) ⌝ }
 {
     if crossing.len() != n {
         return 5;
