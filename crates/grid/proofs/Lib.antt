@@ -1,8 +1,7 @@
--- Laws that the proofs of grid share.
-pub mod Outcomes
+-- Laws that the proofs of grid share, and what the step means.
+pub mod WaysOut
 pub mod Vertices
 pub mod Octrees
-pub mod Steps
-pub mod Meaning
-pub mod Theorems
+pub mod Numbers
 pub mod Whole
+pub mod Theorems

@@ -20,7 +20,7 @@ use Rattle.vertex_keys.proofs.Front.{numbered-front, numbered-rises}
 use Rattle.vertex_keys.proofs.Indexing.{same-rises, rising-sorted, find-ready}
 use Rattle.plan.specs.Vertices.{spread}
 use Rattle.plan.specs.Vertices.{dimsOf, tripleAt, pointAt}
-use Rattle.grid.specs.Grid.{gridCells, gridVertices, vertexKeys, numberAt, cellTable, tripleTable, pointTable}
+use Rattle.grid.specs.Grid.{gridCells, gridVertices, vertexKeys, vertexNumber, cellTable, tripleTable, pointTable}
 use Rattle.grid.specs.Step.{cellCount, vertexCount}
 use Rattle.grid.specs.Parts.{keyTable}
 use Rattle.grid.proofs.Vertices.{spread-keys}
@@ -120,12 +120,12 @@ module _ (p : Plan) (s : List ℕ) (h : 1 ≤ p .levels) where
       go zero g = absurd (omega arith)
       go (suc l) g = unfold gridVertices in refl
 
-  pub octree-number : numberAt (p .levels) (dimsOf p) s ≡ (λ q. rank (keyOf q) (vertexKeys (p .levels) (dimsOf p) s))
+  pub octree-number : vertexNumber (p .levels) (dimsOf p) s ≡ (λ q. rank (keyOf q) (vertexKeys (p .levels) (dimsOf p) s))
   octree-number = go (p .levels) h
     where
-      go : (l : ℕ) → 1 ≤ l → numberAt l (dimsOf p) s ≡ (λ q. rank (keyOf q) (vertexKeys l (dimsOf p) s))
+      go : (l : ℕ) → 1 ≤ l → vertexNumber l (dimsOf p) s ≡ (λ q. rank (keyOf q) (vertexKeys l (dimsOf p) s))
       go zero g = absurd (omega arith)
-      go (suc l) g = unfold numberAt in refl
+      go (suc l) g = unfold vertexNumber in refl
 
   pub octree-cell-count : cellCount p s ≡ length (cells (p .levels) (dimsOf p) (read (dimsOf p) (p .levels) s))
   octree-cell-count = ap length octree-cells

@@ -19,6 +19,7 @@ use Rattle.refusals.proofs.Rows.{unless-none, unless-some}
 use Rattle.space.specs.Space.{Axis, ax, ay, az, Pos, pos}
 use Rattle.vertex_keys.specs.Keys.{Before}
 use Rattle.plan.specs.Step.{planOf, onPlan}
+use Rattle.plan.proofs.Ready.{ready-levels}
 use Rattle.plan.specs.declared.Bounds.{Bounds}
 use Rattle.plan.specs.declared.Plan.{Plan}
 use Rattle.plan.specs.declared.Planned.{Planned}
@@ -34,9 +35,8 @@ use Rattle.grid.specs.Step.{cellCount, vertexCount, lacksCells, lacksVer
 use Rattle.grid.specs.Whole.{along, threeAt, OctreeVertices, LatticeVertices, Whole}
 use Rattle.grid.specs.declared.Gridded.{Gridded}
 use Rattle.grid.specs.declared.Gridded.the-variants.{Done, Refused, NoCells, NoVertices}
-use Rattle.grid.proofs.Outcomes.{length-cells, length-triples, length-points, lattice-cell-count, lattice-vertex-count}
-use Rattle.grid.proofs.Steps.{levels-are, taken}
-use Rattle.grid.proofs.Theorems.{cells-name, cells-below, vertices-once, vertices-rise, vertices-used}
+use Rattle.grid.proofs.WaysOut.{length-cells, length-triples, length-points, lattice-cell-count, lattice-vertex-count, taken}
+use Rattle.grid.proofs.Numbers.{cells-name, cells-below, vertices-once, vertices-rise, vertices-used}
 
 -- ---- a table by its entries
 
@@ -164,7 +164,7 @@ module _ (b : Bounds) (c : Float) (levels : ℕ) (s C T P w : List ℕ) where
       tables = (g .cells ∙ rw (is-done, is .ready) refl, g .triples ∙ rw (is-done, is .ready) refl, g .points ∙ rw (is-done, is .ready) refl)
 
       takes : 1 ≤ p .levels → Taken s (rootsIn p)
-      takes o = taken b c levels p (is .ready) s (is .accepted) (λ z. omega (arith, levels-are b c levels p (is .ready)))
+      takes o = taken b c levels p (is .ready) s (is .accepted) (λ z. omega (arith, ready-levels b c levels p (is .ready)))
 
       -- an answer: every cell and every vertex stands in the tables
       pub nothing-in-part : (q : Plan) × (planOf b c levels ≡ planned.Ready q) × Whole q s n v C′ T′ P′

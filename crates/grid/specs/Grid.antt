@@ -25,14 +25,14 @@ gridVertices zero d s = latticeVertices d
 gridVertices (suc l) d s = map tripleOf (vertexKeys (suc l) d s)
 
 -- the number of a vertex
-unfoldable pub numberAt : ℕ → Pos → List ℕ → Pos → ℕ
-numberAt zero d s = indexOf d
-numberAt (suc l) d s = λ q. rank (keyOf q) (vertexKeys (suc l) d s)
+unfoldable pub vertexNumber : ℕ → Pos → List ℕ → Pos → ℕ
+vertexNumber zero d s = indexOf d
+vertexNumber (suc l) d s = λ q. rank (keyOf q) (vertexKeys (suc l) d s)
 
 -- ---- as tables
 
 unfoldable pub cellTable : Plan → List ℕ → List ℕ
-cellTable p s = flat (numberAt (p .levels) (dimsOf p) s) (gridCells (p .levels) (dimsOf p) s)
+cellTable p s = flat (vertexNumber (p .levels) (dimsOf p) s) (gridCells (p .levels) (dimsOf p) s)
 
 unfoldable pub tripleTable : Plan → List ℕ → List ℕ
 tripleTable p s = spread tripleAt (gridVertices (p .levels) (dimsOf p) s)

@@ -6,10 +6,9 @@ use Prim.Native.Nat.{ℕ, _+_, _*_, _≤_, _<_}
 use lib.ListN.{length, getD, take, drop, replicate}
 use Rattle.lists.specs.Runs.{run}
 use Rattle.space.specs.Space.{Axis, ax, ay, az}
-use Rattle.space.specs.Levels.{mostOctants, off}
+use Rattle.space.specs.Levels.{mostOctants}
 use Rattle.vertex_keys.specs.Keys.{mostKeys, tripleOf}
 use Rattle.vertex_keys.specs.Parts.{Lookup}
-use Rattle.plan.specs.Vertices.{dimsOf}
 use Rattle.plan.specs.declared.Plan.{Plan}
 use Rattle.octree.specs.Parts.{rootsOf}
 use Rattle.octree.specs.declared.Roots.{Roots}
@@ -19,15 +18,6 @@ use Rattle.grid.specs.Grid.{vertexKeys, cellTable, tripleTable, pointTab
 use Rattle.grid.specs.Step.{cellCount, vertexCount, lacksVertices, resultAfter}
 use Rattle.grid.specs.declared.Gridded.{Gridded}
 use Rattle.grid.specs.declared.Gridded.the-variants.{Done, NoVertices}
-
--- what is known of a plan that is ready
-pub record Planful (p : Plan) : Type 0 where
-  pub dims-some : (1 ≤ p .nx) × (1 ≤ p .ny) × (1 ≤ p .nz)
-  pub dims-few : (p .nx ≤ 128) × (p .ny ≤ 128) × (p .nz ≤ 128)
-  pub roots-few : 1 ≤ p .levels → (p .nx ≤ 64) × (p .ny ≤ 64) × (p .nz ≤ 64)
-  pub levels-few : p .levels ≤ 5
-  pub octants-are : p .octants ≡ off (dimsOf p) (p .levels)
-  pub octants-few : p .octants ≤ mostOctants
 
 -- the roots of a plan
 abbrev pub rootsIn : Plan → Roots

@@ -4,11 +4,12 @@ use mathlib.Core.Path.{_≡_}
 use mathlib.Core.Bool.{Bool, cond, not, _||_}
 use mathlib.Core.List.{List, [], _∷_, _++_}
 use Prim.Native.Nat.{ℕ, _*_, _/_}
-use lib.Dec.{eqb, ltb}
+use lib.Dec.{ltb}
 use lib.ListN.{length}
 use lib.Ieee.{Float}
 use Rattle.refusals.specs.Rows.{Row, _when_, first, unless}
-use Rattle.lists.specs.Tables.{allAtMost, front, zeroed}
+use Rattle.refusals.specs.Causes.{eachRows, answerRows}
+use Rattle.lists.specs.Tables.{front, zeroed}
 use Rattle.octants.specs.Judge.{isGraded}
 use Rattle.plan.specs.Step.{planOf, planRows, onPlan}
 use Rattle.plan.specs.declared.Bounds.{Bounds}
@@ -32,23 +33,22 @@ lacksCells n cells work = ltb (cells / 4) n || ltb work (4 * n)
 unfoldable pub lacksVertices : ℕ → ℕ → ℕ → Bool
 lacksVertices v triples points = ltb (triples / 3) v || ltb (points / 3) v
 
+-- a split table that is no graded octree
+unfoldable pub gradedRows : Plan → List ℕ → List Row
+gradedRows p s = 7 when not (isGraded (dimsOf p) (p .levels) s) ∷ []
+
 -- the refusals of a split table with a plan: it has the plan's length, its bytes are 0 or 1, and it is a graded octree
 unfoldable pub splitRows : Plan → List ℕ → List Row
-splitRows p s =
-    5 when not (eqb (length s) (p .octants))
-    ∷ 6 when not (allAtMost 1 s)
-    ∷ 7 when not (isGraded (dimsOf p) (p .levels) s)
-    ∷ []
+splitRows p s = eachRows (p .octants) (length s) ++ answerRows s ++ gradedRows p s
 
--- all refusals with a plan; the lengths are those of C, T, P and w
+-- those of the other tables, by their lengths
+unfoldable pub fillRows : Plan → List ℕ → (cells triples points work : ℕ) → List Row
+fillRows p s cells triples points work =
+    9 when lacksCells (cellCount p s) cells work ∷ 9 when lacksVertices (vertexCount p s) triples points ∷ []
+
+-- all refusals with a plan
 abbrev pub tableRows : Plan → List ℕ → (cells triples points work : ℕ) → List Row
-tableRows p s cells triples points work =
-    5 when not (eqb (length s) (p .octants))
-    ∷ 6 when not (allAtMost 1 s)
-    ∷ 7 when not (isGraded (dimsOf p) (p .levels) s)
-    ∷ 9 when lacksCells (cellCount p s) cells work
-    ∷ 9 when lacksVertices (vertexCount p s) triples points
-    ∷ []
+tableRows p s cells triples points work = splitRows p s ++ fillRows p s cells triples points work
 
 -- all refusals, the lowest number first
 abbrev pub gridRows : Bounds → Float → ℕ → List ℕ → (C T P w : List ℕ) → List Row
@@ -56,17 +56,17 @@ gridRows b c levels s C T P w =
     planRows b c levels ++ onPlan (planOf b c levels) (λ n. []) (λ p. tableRows p s (length C) (length T) (length P) (length w))
 
 -- the number and values of each answer: rules 11.3, 11.4
-abbrev pub gridNumber : Gridded → ℕ
-gridNumber (Done cells vertices) = 0
-gridNumber (Refused number) = number
-gridNumber (NoCells cells) = 9
-gridNumber (NoVertices cells vertices) = 9
+abbrev pub numberOf : Gridded → ℕ
+numberOf (Done cells vertices) = 0
+numberOf (Refused number) = number
+numberOf (NoCells cells) = 9
+numberOf (NoVertices cells vertices) = 9
 
-abbrev pub gridValues : Gridded → List ℕ
-gridValues (Done cells vertices) = cells ∷ vertices ∷ []
-gridValues (Refused number) = []
-gridValues (NoCells cells) = cells ∷ 0 ∷ []
-gridValues (NoVertices cells vertices) = cells ∷ vertices ∷ []
+abbrev pub valuesOf : Gridded → List ℕ
+valuesOf (Done cells vertices) = cells ∷ vertices ∷ []
+valuesOf (Refused number) = []
+valuesOf (NoCells cells) = cells ∷ 0 ∷ []
+valuesOf (NoVertices cells vertices) = cells ∷ vertices ∷ []
 
 -- the answer of a plan and a split table that are not refused
 unfoldable pub filledOf : Plan → List ℕ → (cells triples points work : ℕ) → Gridded
@@ -89,11 +89,11 @@ resultAfter (NoCells cells) new lent = lent
 resultAfter (NoVertices cells vertices) new lent = lent
 
 -- the work is zero, four entries a cell, on an answer and where there is no room for the vertices, else as lent
-abbrev pub gridWork : Gridded → List ℕ → List ℕ
-gridWork (Done cells vertices) lent = zeroed (4 * cells) lent
-gridWork (Refused number) lent = lent
-gridWork (NoCells cells) lent = lent
-gridWork (NoVertices cells vertices) lent = zeroed (4 * cells) lent
+abbrev pub workAfter : Gridded → List ℕ → List ℕ
+workAfter (Done cells vertices) lent = zeroed (4 * cells) lent
+workAfter (Refused number) lent = lent
+workAfter (NoCells cells) lent = lent
+workAfter (NoVertices cells vertices) lent = zeroed (4 * cells) lent
 
 -- what a plan and a split table that are not refused give
 pub record Filled (p : Plan) (s C T P w : List ℕ) (r : Gridded) (C′ T′ P′ w′ : List ℕ) : Type 0 where
@@ -101,7 +101,7 @@ pub record Filled (p : Plan) (s C T P w : List ℕ) (r : Gridded) (C′ T′ P�
   pub cells : C′ ≡ resultAfter r (cellTable p s) C
   pub triples : T′ ≡ resultAfter r (tripleTable p s) T
   pub points : P′ ≡ resultAfter r (pointTable p s) P
-  pub work : w′ ≡ gridWork r w
+  pub work : w′ ≡ workAfter r w
 
 -- the tables of the plan that is made, where there is one
 abbrev pub planned : Bounds → Float → ℕ → (Plan → List ℕ) → List ℕ
@@ -112,4 +112,4 @@ pub record GridDone (b : Bounds) (c : Float) (levels : ℕ) (s C T P w : List �
   pub cells : C′ ≡ resultAfter (gridOf b c levels s C T P w) (planned b c levels (λ p. cellTable p s)) C
   pub triples : T′ ≡ resultAfter (gridOf b c levels s C T P w) (planned b c levels (λ p. tripleTable p s)) T
   pub points : P′ ≡ resultAfter (gridOf b c levels s C T P w) (planned b c levels (λ p. pointTable p s)) P
-  pub work : w′ ≡ gridWork (gridOf b c levels s C T P w) w
+  pub work : w′ ≡ workAfter (gridOf b c levels s C T P w) w

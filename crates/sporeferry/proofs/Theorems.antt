@@ -14,7 +14,7 @@ use Rattle.refine.specs.Step.{RefineDone}
 use Rattle.refine.proofs.Theorems.{refine-one}
 use Rattle.grid.specs.declared.Gridded.{Gridded}
 use Rattle.grid.specs.Step.{GridDone}
-use Rattle.grid.proofs.Meaning.{grid-one}
+use Rattle.grid.proofs.Theorems.{grid-one}
 use Rattle.representatives.specs.Step.{RepresentativesDone}
 use Rattle.representatives.proofs.Theorems.{representatives-one}
 use Rattle.marked.specs.declared.Kept.{Kept}

@@ -1,6 +1,7 @@
 use mathlib.Core.Path.{sym, ap, _∙_}
 use Rattle.plan.specs.Step.{numberOf}
-use Rattle.grid.proofs.Steps.{planful, levels-are, short-table, taken, plan-refused, split-refused, filled, filled-lattice}
+use Rattle.plan.proofs.Ready.{ready, ready-levels}
+use Rattle.grid.proofs.WaysOut.{short-table, taken, plan-refused, split-refused, filled, filled-lattice}
 use borrow.Author.Needs.{needs}
 use Rattle.grid.proofs.grid.Statement.{statement}
 use Rattle.grid.proofs.grid.Tie as tie
@@ -26,7 +27,7 @@ judge-requires : tie.Need-judge-requires
 judge-requires c κs =
     let x = c .before .before .before .before .before .before .before .before .before .args in
     let e = sym (c .before .before .before .new .ensures) ∙ c .before .a .given .1 in
-    planful (x .b) (x .c) (x .levels) _ e
+    ready (x .b) (x .c) (x .levels) _ e
 
 returns-2 : tie.Need-returns-2
 returns-2 c =
@@ -38,7 +39,7 @@ lattice-grid-requires : tie.Need-lattice-grid-requires
 lattice-grid-requires c κs =
     let x = c .before .before .before .before .before .before .before .before .before .before .before .before .before .before .before .before .args in
     let e = sym (c .before .before .before .before .before .before .before .before .before .before .new .ensures) ∙ c .before .before .before .before .before .before .before .before .a .given .1 in
-    (planful (x .b) (x .c) (x .levels) _ e, levels-are (x .b) (x .c) (x .levels) _ e ∙ c .before .before .before .before .if2 .taken)
+    (ready (x .b) (x .c) (x .levels) _ e, ready-levels (x .b) (x .c) (x .levels) _ e ∙ c .before .before .before .before .if2 .taken)
 
 same-length : tie.Need-same-length
 same-length c = search needs

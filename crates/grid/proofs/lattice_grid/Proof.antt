@@ -7,12 +7,18 @@ use lib.Seq.{length-take-le}
 use Rattle.lists.proofs.Running.{room-as}
 use Rattle.lattice.specs.Lattice.{latticeTable}
 use Rattle.plan.specs.Vertices.{dimsOf, tripleAt, pointAt}
-use Rattle.lattice.specs.Parts.{verticesOf}
+use Rattle.space.specs.Space.{Pos, ax, ay, az}
+use Rattle.space.specs.Levels.{Counts}
+use Rattle.plan.specs.Step.{mostLattice}
+use Rattle.lattice.specs.Parts.{Dims, verticesOf}
 use Rattle.lattice.proofs.Tables.{all-cells}
-use Rattle.grid.proofs.Outcomes.{cells-room, vertices-room, no-cells, no-vertices, done, lattice-cells, lattice-triples, lattice-points, lattice-cell-count, lattice-vertex-count, lent-room, lent-full, length-cells, length-triples, length-points}
+use Rattle.grid.proofs.WaysOut.{cells-room, vertices-room, no-cells, no-vertices, done, lattice-cells, lattice-triples, lattice-points, lattice-cell-count, lattice-vertex-count, lent-room, lent-full, length-cells, length-triples, length-points}
 use borrow.Author.Needs.{needs}
 use Rattle.grid.proofs.lattice_grid.Statement.{statement}
 use Rattle.grid.proofs.lattice_grid.Tie as tie
+
+dims : {d : Pos} → Counts mostLattice d → Dims (d ax) (d ay) (d az)
+dims c = record { x-some = c .some ax; y-some = c .some ay; z-some = c .some az; x-few = c .few ax; y-few = c .few ay; z-few = c .few az }
 
 cast-count : tie.Need-cast-count
 cast-count c = search needs
@@ -24,7 +30,7 @@ cast-count-3 : tie.Need-cast-count-3
 cast-count-3 c = search needs
 
 count-requires : tie.Need-count-requires
-count-requires c κs = search needs
+count-requires c κs = dims (c .before .before .before .before .before .before .before .pre .0 .dims)
 
 lacks-cells-requires : tie.Need-lacks-cells-requires
 lacks-cells-requires c κs = omega (arith, c .count .ensures .cells-few)
@@ -80,7 +86,7 @@ store-cells-requires c κs =
     let lc = sym (c .before .before .before .before .before .before .before .before .lacks-cells .ensures) ∙ c .before .before .before .before .before .before .before .if1 .left in
     let cl : length (latticeTable (dimsOf q)) ≡ 4 * c .before .before .before .before .before .before .before .before .before .count .result .cells = ap length (sym (lattice-cells q [] z)) ∙ length-cells q [] ∙ ap (λ (i : ℕ). 4 * i) (sym en) in
     let h = c .before .before .before .before .before .before .before .before .before .before .before .before .before .before .before .before .before .pre .0 in
-    (record { x-some = h .dims-some .0; y-some = h .dims-some .1; z-some = h .dims-some .2; x-few = h .dims-few .0; y-few = h .dims-few .1; z-few = h .dims-few .2 }, room-as (sym (all-cells (dimsOf q))) (lent-room _ _ _ cl (cells-room _ _ _ lc .0)))
+    (dims (h .dims), room-as (sym (all-cells (dimsOf q))) (lent-room _ _ _ cl (cells-room _ _ _ lc .0)))
 
 mul-most : tie.Need-mul-most
 mul-most c = omega (arith, c .before .before .before .before .before .before .before .before .before .before .before .before .count .ensures .vertices-few)
@@ -108,7 +114,7 @@ store-vertices-requires c κs =
     let tl : length (verticesOf tripleAt q) ≡ 3 * c .before .before .before .before .before .before .before .before .before .before .before .before .before .before .count .result .vertices = ap length (sym (lattice-triples q [] z)) ∙ length-triples q [] ∙ ap (λ (i : ℕ). 3 * i) (sym ev) in
     let pl : length (verticesOf (pointAt q) q) ≡ 3 * c .before .before .before .before .before .before .before .before .before .before .before .before .before .before .count .result .vertices = ap length (sym (lattice-points q [] z)) ∙ length-points q [] ∙ ap (λ (i : ℕ). 3 * i) (sym ev) in
     let h = c .before .before .before .before .before .before .before .before .before .before .before .before .before .before .before .before .before .before .before .before .before .before .pre .0 in
-    (record { x-some = h .dims-some .0; y-some = h .dims-some .1; z-some = h .dims-some .2; x-few = h .dims-few .0; y-few = h .dims-few .1; z-few = h .dims-few .2 }, record { triples = lent-room _ _ _ tl (vertices-room _ _ _ lv .0); points = lent-room _ _ _ pl (vertices-room _ _ _ lv .1) })
+    (dims (h .dims), record { triples = lent-room _ _ _ tl (vertices-room _ _ _ lv .0); points = lent-room _ _ _ pl (vertices-room _ _ _ lv .1) })
 
 same-length-2 : tie.Need-same-length-2
 same-length-2 c = search needs

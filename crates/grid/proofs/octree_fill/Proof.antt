@@ -6,9 +6,8 @@ use lib.Seq.{length-take-le}
 use Rattle.lists.proofs.Tests.{told}
 use Rattle.vertex_keys.proofs.Indexing.{short}
 use Rattle.grid.specs.Step.{cellCount}
-use Rattle.grid.proofs.Outcomes.{vertices-room, lent-full, length-triples, length-points}
+use Rattle.grid.proofs.WaysOut.{vertices-room, lent-full, length-triples, length-points, stocked-none, stocked-done}
 use Rattle.grid.proofs.Octrees.{octree-vertex-count, octree-cell-count, octree-table, octree-triples, octree-points}
-use Rattle.grid.proofs.Steps.{stocked-none, stocked-done}
 use borrow.Author.Needs.{needs}
 use Rattle.grid.proofs.octree_fill.Statement.{statement}
 use Rattle.grid.proofs.octree_fill.Tie as tie

@@ -7,9 +7,8 @@ use Rattle.octree.specs.Parts.{treeOf}
 use Rattle.leaves.proofs.Walking.{six-each, some-leaf, cells-few}
 use Rattle.plan.specs.Vertices.{dimsOf}
 use Rattle.grid.specs.Parts.{rootsIn}
-use Rattle.grid.proofs.Outcomes.{cells-room, no-cells}
+use Rattle.grid.proofs.WaysOut.{cells-room, no-cells, fill-whole}
 use Rattle.grid.proofs.Octrees.{octree-cell-count}
-use Rattle.grid.proofs.Steps.{fill-whole}
 use borrow.Author.Needs.{needs}
 use Rattle.grid.proofs.octree_grid.Statement.{statement}
 use Rattle.grid.proofs.octree_grid.Tie as tie
