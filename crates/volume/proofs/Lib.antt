@@ -1,2 +1,2 @@
 -- Laws of the verdict.
-pub mod Meaning
+pub mod Theorems

@@ -41,6 +41,12 @@ leastOf c = c *f c *f c *f f32 0x3586_37bd
 unfoldable pub verdictOf : Float → Float → Verdict
 verdictOf v least = cond (lt (sizeOf v) least) (Dropped v) (cond (lt v zero32) (Exchanged v) (Kept v))
 
+-- the volume that it carries
+abbrev pub volumeIn : Verdict → Float
+volumeIn (Kept v) = v
+volumeIn (Exchanged v) = v
+volumeIn (Dropped v) = v
+
 -- the verdict on the cell i of a table of cells
 unfoldable pub verdictAt : List ℕ → List ℕ → ℕ → Float → Verdict
 verdictAt P C i least = verdictOf (volumeOf (cornersOf P (cellOf C i))) least

@@ -1,9 +1,10 @@
 // The centroid and the volume of a cell, and the verdict on it. Points are bit patterns, three to a point.
 ghost use mathlib.Core.Path.{_≡_};
 ghost use Prim.Native.Nat.{_<_};
+ghost use lib.Ieee.{binary32, toBits};
 ghost use Rattle.mesh.specs.Mesh.{pointsOf, Points};
 ghost use Rattle.volume.specs.Cell.{pointOf, cornersOf};
-ghost use Rattle.volume.specs.Volume.{minusOf, crossOf, dotOf, volumeOf, sizeOf, leastOf, verdictOf, centreOf, centroidOf};
+ghost use Rattle.volume.specs.Volume.{minusOf, crossOf, dotOf, volumeOf, sizeOf, leastOf, verdictOf, volumeIn, centreOf, centroidOf};
 use float32::to_f32;
 use mesh::Cell;
 
@@ -89,6 +90,24 @@ pub fn verdict_on(k: Corners, least: f32) -> Verdict
         return Verdict::Exchanged(v);
     }
     Verdict::Kept(v)
+}
+
+// The volume that a verdict carries.
+fn volume_in(verdict: Verdict) -> f32
+    ensures { λ r. ⌜ r ≡ volumeIn verdict ⌝ }
+{
+    match verdict {
+        Verdict::Kept(v) => v,
+        Verdict::Exchanged(v) => v,
+        Verdict::Dropped(v) => v,
+    }
+}
+
+// Its bits; those of a NaN are 7FC00000.
+pub fn volume_bits(verdict: Verdict) -> u32
+    ensures { λ r. ⌜ r ≡ toBits binary32 (volumeIn verdict) ⌝ }
+{
+    float32::from_f32(volume_in(verdict))
 }
 
 // The point i of the table.

@@ -168,10 +168,14 @@ fn lattice_tetrahedra(lattice: &Lattice, coords: &[[i32; 3]]) -> Vec<[u32; 4]> {
     tets
 }
 
+fn volume_of(pts: &[Vector], tet: [u32; 4]) -> Real {
+    let [a, b, c, d] = tet.map(|i| pts[i as usize]);
+    (b - a).cross(c - a).dot(d - a) / 6.0
+}
+
 /// The tetrahedron flipped positive, or nothing if it is degenerate.
 fn orient_tet(pts: &[Vector], mut tet: [u32; 4], min_volume: Real) -> Option<[u32; 4]> {
-    let [a, b, c, d] = tet.map(|i| pts[i as usize]);
-    let volume = (b - a).cross(c - a).dot(d - a) / 6.0;
+    let volume = volume_of(pts, tet);
 
     if volume.abs() < min_volume {
         return None;

@@ -25,6 +25,10 @@ pub fn flood_fill_inside(
     super::flood_fill_inside(oracle, points, grid_cells, crossing)
 }
 
+pub fn volume_of(pts: &[Vector], tet: [u32; 4]) -> Real {
+    super::volume_of(pts, tet)
+}
+
 pub fn orient_tet(pts: &[Vector], tet: [u32; 4], min_volume: Real) -> Option<[u32; 4]> {
     super::orient_tet(pts, tet, min_volume)
 }
