@@ -1,20 +1,20 @@
 -- The turns of `mark_crust` and `mark_cover`. Assumes nothing.
 use mathlib.Core.Path.{_≡_, refl, sym, ap, subst, _∙_}
 use mathlib.Core.Logic.{_⊎_, inl, inr, _≢_}
-use mathlib.Core.Bool.{Bool, true, false, cond, not, _||_}
+use mathlib.Core.Bool.{Bool, true, false, not, _||_}
 use mathlib.Core.List.{List}
-use Prim.Native.Nat.{ℕ, _+_, _*_, _/_, _≤_, _<_}
+use Prim.Native.Nat.{ℕ, _+_, _≤_, _<_}
 use native.Mathlib.Nat.{not-suc-le-zero}
 use native.Mathlib.Omega.{arith}
-use borrow.Author.Tests.{eq-eqb, ne-eqb}
+use borrow.Author.Tests.{ne-eqb}
 use lib.Dec.{eqb}
-use lib.ListN.{length, getD, set, take, drop, length-set, length-drop}
-use lib.Seq.{getD-set-same, getD-set-other, take-set-le, drop-set-add, getD-take, getD-drop}
+use lib.ListN.{getD, set, take, drop, length-set, length-drop}
+use lib.Seq.{getD-set-other, take-set-le, drop-set-add, getD-take, getD-drop}
 use Rattle.lists.specs.Tests.{bit}
 use Rattle.mesh.specs.Mesh.{cellsOf}
 use Rattle.lists.proofs.Cases.{eqOr, below-set}
 use Rattle.links.specs.Labels.{labelAt}
-use Rattle.groups.specs.Parts.{Sized, Labelled}
+use Rattle.groups.specs.Parts.{Sized}
 use Rattle.groups.proofs.Highest.{label-below}
 use Rattle.marked.specs.Parts.{markedIn}
 use Rattle.keep.specs.Marked.{crustMark, isInside, coverMark}

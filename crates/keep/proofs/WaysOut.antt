@@ -1,15 +1,16 @@
 -- The outcomes of the two steps, one law for each way out. Assumes nothing.
 use mathlib.Core.Path.{_≡_, refl, sym, ap, subst, _∙_}
-use mathlib.Core.Logic.{_≢_}
+use mathlib.Core.Logic.{_⊎_, inl, inr, _≢_}
 use mathlib.Core.Bool.{Bool, true, false, cond}
 use mathlib.Core.List.{List, [], _∷_, _++_}
-use Prim.Native.Nat.{ℕ, _+_, _*_, _/_, _≤_, _<_}
+use Prim.Native.Nat.{ℕ, _+_, _/_, _≤_, _<_}
 use native.Mathlib.Omega.{arith}
 use lib.Dec.{eqb, ltb}
 use lib.Ieee.{Float}
 use lib.ListN.{length, take, drop, replicate}
 use lib.Seq.{length-take-le, length-front, take-at, take-take, drop-append-add, drop-drop}
 use Rattle.lists.specs.Tables.{among, allFrom}
+use Rattle.lists.proofs.Cases.{eqOr}
 use Rattle.lists.proofs.Lent.{as-lent, as-lent-below}
 use Rattle.refusals.specs.Rows.{first, proper, under}
 use Rattle.refusals.specs.Causes.{workRows, eachRows, answerRows}
@@ -20,15 +21,15 @@ use Rattle.mesh.specs.Judged.{countRows, wholeRows, sizeRows, nameRows}
 use Rattle.mesh.proofs.Unrefused.{Fitting, sizes-proper, sizes-fit, names-fit, named-fit}
 use Rattle.groups.specs.Judged.{crossedRows}
 use Rattle.groups.specs.Parts.{Sized, Laid}
-use Rattle.groups.proofs.Unrefused.{Answered, crossed-fits, sized-front}
+use Rattle.groups.proofs.Unrefused.{crossed-fits, sized-front}
 use Rattle.volume.specs.Volume.{leastOf}
-use Rattle.marked.specs.Kept.{pointsKept, cellsKept, keptOf}
+use Rattle.marked.specs.Kept.{numberOf, pointsKept, cellsKept, keptOf, pointsAfter, cellsAfter}
 use Rattle.marked.specs.Parts.{markedIn, KeptAs, KeptMarked}
 use Rattle.marked.specs.declared.Kept.{Kept}
 use Rattle.marked.specs.declared.Kept.the-variants.{Done, Refused, Short, Nothing}
 use Rattle.marked.proofs.WaysOut.{kept-same}
 use Rattle.keep.specs.Step.{needOf, cellSizeRows, crustRows, coverRows, keepOf, workAfter, KeepDone}
-use Rattle.keep.specs.Parts.{MarksOf, InsideAsked, frontOf, RestKept}
+use Rattle.keep.specs.Parts.{MarksOf, frontOf, RestKept}
 
 -- ---- what is known where nothing is refused: p is the length of the table of points, room that of the work
 
@@ -142,6 +143,22 @@ module _ (P C F : List ℕ) (lost : ℕ) (p q w : List ℕ) (number : ℕ) where
   kept z k e =
       let a : keepOf number F lost p q ≡ keptOf F lost p q = unless-none number Refused _ z in
       rw a (record { answer = k .answer; points = k .points; cells = k .cells; work = e ∙ sym zero-after })
+
+  -- an answer is that of the mesh kept
+  pub answer-kept : {r : Kept} {p′ q′ w′ : List ℕ} {points cells dropped : ℕ} → KeepDone (keepOf number F lost p q) P C F p q w r p′ q′ w′
+      → r ≡ Done points cells dropped → KeptAs P F lost p q r p′ q′
+  unfolding keepOf
+  answer-kept {r} {p′} {q′} d e = go (eqOr number 0)
+    where
+      go : (number ≡ 0) ⊎ (number ≢ 0) → KeptAs P F lost p q r p′ q′
+      go (inl z) =
+          let a : keepOf number F lost p q ≡ keptOf F lost p q = unless-none number Refused _ z in
+          record {
+            answer = d .answer ∙ a;
+            points = d .points ∙ ap (λ (k : Kept). pointsAfter k P F p) a;
+            cells = d .cells ∙ ap (λ (k : Kept). cellsAfter k F q) a;
+          }
+      go (inr n) = absurd (n (sym (ap numberOf (unless-some number Refused (keptOf F lost p q) n)) ∙ ap numberOf (sym (d .answer) ∙ e)))
 
 pub crust-low : (c : Float) (p : ℕ) (C X : List ℕ) (room : ℕ) → first (crustRows c p C X room) < 9
 unfolding crustRows cellSizeRows crossedRows sizeRows countRows wholeRows workRows eachRows answerRows nameRows under

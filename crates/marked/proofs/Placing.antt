@@ -2,7 +2,7 @@
 use mathlib.Core.Path.{_≡_, refl, sym, ap, subst, _∙_}
 use mathlib.Core.Logic.{_⊎_, inl, inr, _≢_}
 use mathlib.Core.Bool.{Bool, true, false, cond}
-use mathlib.Core.List.{List, [], _∷_, _++_, map}
+use mathlib.Core.List.{List, [], _∷_, map}
 use Prim.Native.Nat.{ℕ, zero, suc, _+_, _-_, _*_, _/_, _%_, _≤_, _<_, zero-le}
 use native.Mathlib.Nat.{not-suc-le-zero, le-of-suc-le-suc}
 use native.Mathlib.Omega.{arith}
@@ -21,7 +21,7 @@ use Rattle.lists.proofs.Parts.{sets-whole}
 use Rattle.lists.proofs.Running.{run-last, run-room, stored-both, stored-none}
 use Rattle.lists.proofs.Appearing.{place-one}
 use Rattle.marked.specs.Used.{pointBits, pointsAt}
-use Rattle.marked.specs.Parts.{ordered, shapeOf, placedCell, placedCells, CellAsked, CellStored, CellsAsked, PointStored, PointsAsked, Distinct, PointsStored}
+use Rattle.marked.specs.Parts.{ordered, shapeOf, placedCell, placedCells, CellAsked, CellStored, CellsAsked, PointStored, Distinct, PointsStored}
 use Rattle.marked.proofs.Using.{entry-in}
 
 -- ---- one cell
@@ -138,7 +138,7 @@ bits-three : (P : List ℕ) (v : ℕ) → length (pointBits P v) ≡ 3
 unfolding pointBits
 bits-three P v = refl
 
-points-length : (P s : List ℕ) → length (pointsAt P s) ≡ 3 * length s
+pub points-length : (P s : List ℕ) → length (pointsAt P s) ≡ 3 * length s
 unfolding pointsAt
 points-length P s = spread-length (pointBits P) 3 (bits-three P) s
 

@@ -4,14 +4,14 @@ use mathlib.Core.Logic.{_⊎_, inl, inr, _≢_}
 use mathlib.Core.List.{List, [], _∷_, _++_}
 use Prim.Native.Nat.{ℕ, zero, suc, _+_, _≤_, _<_}
 use native.Mathlib.Nat.{not-suc-le-zero, le-of-suc-le-suc}
-use native.Mathlib.Numerals.{add-one}
 use native.Mathlib.Omega.{arith}
-use lib.ListN.{length, getD, set, length-append, List·getD-append}
-use lib.Seq.{getD-at}
-use Rattle.lists.specs.Appearance.{place, noted, Table}
-use Rattle.lists.proofs.Cases.{eqOr, ltOr}
-use Rattle.lists.proofs.Appearing.{place-le, place-old, place-own, noted-old, noted-new, length-noted, place-kept, place-noted, table-new}
-use Rattle.marked.specs.Used.{firstUses}
+use lib.ListN.{length, getD, set, take, length-map, length-append, List·getD-append}
+use lib.Seq.{take-suc, take-length, getD-at}
+use Rattle.lists.specs.Appearance.{place, noted, seenOf, numbersOf, Table}
+use Rattle.lists.proofs.Cases.{ltOr}
+use Rattle.lists.proofs.Appearing.{place-old, place-own, noted-old, noted-new, length-noted, place-kept, place-noted, number-at, table-new}
+use Rattle.lists.proofs.Listing.{map-at}
+use Rattle.marked.specs.Used.{firstUses, usedOf, renumbered}
 use Rattle.marked.specs.Parts.{NotedIn, Distinct}
 
 pub uses-append : (A B s : List ℕ) → firstUses s (A ++ B) ≡ firstUses (firstUses s A) B
@@ -65,6 +65,49 @@ distinct-uses (v ∷ F) s d = distinct-uses F (noted v s) (distinct-noted v s d)
 
 pub distinct-none : Distinct []
 distinct-none = record { own = λ k h. absurd (not-suc-le-zero h) }
+
+-- ---- numbers by first use are numbers by first appearance
+
+pub renumbered-length : (F : List ℕ) → length (renumbered F) ≡ length F
+unfolding renumbered
+renumbered-length F = length-map F (λ v. place v (usedOf F))
+
+used-to : (F : List ℕ) (n : ℕ) → n ≤ length F → seenOf (λ i. getD F i 0) n ≡ usedOf (take n F)
+unfolding seenOf usedOf firstUses
+used-to F zero h = refl
+used-to F (suc n) h =
+    ap (noted (getD F n 0)) (used-to F n (omega arith))
+    ∙ sym (ap (firstUses []) (take-suc F n 0 (omega arith)) ∙ uses-append (take n F) (getD F n 0 ∷ []) [])
+
+pub used-seen : (F : List ℕ) → usedOf F ≡ seenOf (λ i. getD F i 0) (length F)
+used-seen F = sym (used-to F (length F) (omega arith) ∙ ap usedOf (take-length F))
+
+pub renumbered-at : (F : List ℕ) (k : ℕ) → k < length F → getD (renumbered F) k 0 ≡ getD (numbersOf (λ i. getD F i 0) (length F)) k 0
+unfolding renumbered
+renumbered-at F k h =
+    map-at (λ v. place v (usedOf F)) F 0 0 k h ∙ ap (place (getD F k 0)) (used-seen F) ∙ sym (number-at (λ i. getD F i 0) (length F) k h)
+
+-- each place among those seen is that of one of them
+pub seen-from : (g : ℕ → ℕ) (n v : ℕ) → v < length (seenOf g n) → (j : ℕ) × (j < n) × (place (g j) (seenOf g n) ≡ v)
+unfolding seenOf
+seen-from g zero v h = absurd (not-suc-le-zero h)
+seen-from g (suc n) v h = go (seen-from g n v) h (ltOr (place (g n) (seenOf g n)) (length (seenOf g n)))
+  where
+    go : (v < length (seenOf g n) → (j : ℕ) × (j < n) × (place (g j) (seenOf g n) ≡ v)) → v < length (noted (g n) (seenOf g n))
+        → (place (g n) (seenOf g n) < length (seenOf g n)) ⊎ (length (seenOf g n) ≤ place (g n) (seenOf g n))
+        → (j : ℕ) × (j < suc n) × (place (g j) (noted (g n) (seenOf g n)) ≡ v)
+    go ih b (inl q) =
+        let r = ih (omega (arith, ap length (noted-old (g n) (seenOf g n) q))) in
+        (r .0, omega (arith, r .1), ap (place (g (r .0))) (noted-old (g n) (seenOf g n) q) ∙ r .2)
+    go ih b (inr q) = by (ltOr v (length (seenOf g n)))
+      where
+        by : (v < length (seenOf g n)) ⊎ (length (seenOf g n) ≤ v) → (j : ℕ) × (j < suc n) × (place (g j) (noted (g n) (seenOf g n)) ≡ v)
+        by (inl a) =
+            let r = ih a in
+            (r .0, omega (arith, r .1), ap (place (g (r .0))) (noted-new (g n) (seenOf g n) q) ∙ place-old (g (r .0)) (g n) (seenOf g n) (omega (arith, r .2)) ∙ r .2)
+        by (inr a) =
+            let e : length (seenOf g n) ≡ v = omega (arith, length-noted (g n) (seenOf g n) q) in
+            (n, omega arith, ap (place (g n)) (noted-new (g n) (seenOf g n) q) ∙ place-own (g n) (seenOf g n) q ∙ e)
 
 -- ---- one point is noted
 

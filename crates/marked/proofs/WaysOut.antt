@@ -8,7 +8,7 @@ use native.Mathlib.Omega.{arith}
 use borrow.Author.Tests.{lt-ltb, le-ltb, eq-eqb, ne-eqb}
 use lib.Dec.{eqb, ltb}
 use lib.Ieee.{Float}
-use lib.ListN.{length, getD, take, drop, length-map}
+use lib.ListN.{length, getD, take, drop}
 use lib.Seq.{length-take-le, getD-take, getD-drop}
 use Rattle.lists.specs.Appearance.{place}
 use Rattle.lists.proofs.Cases.{eqOr, ltOr}
@@ -30,7 +30,7 @@ use Rattle.marked.specs.Parts.{markedIn, codeOf, codeAt, In, Tallied, or
 use Rattle.marked.specs.declared.Counts.{Counts}
 use Rattle.marked.specs.declared.Kept.{Kept}
 use Rattle.marked.specs.declared.Kept.the-variants.{Done, Short, Nothing}
-use Rattle.marked.proofs.Using.{distinct-uses, distinct-none}
+use Rattle.marked.proofs.Using.{distinct-uses, distinct-none, renumbered-length}
 use Rattle.marked.proofs.Placing.{order-named}
 
 -- what stands in a cell's entry says how its verdict leaves it
@@ -88,10 +88,6 @@ module _ (P C M w : List ℕ) (n : ℕ) (least : Float) (r : Counts) (t : Tallie
       ∙ ap (map (λ v. place v s)) (entry-shape (markedIn M i) least P C i))
       ∙ sym (run-map (map (λ v. place v s)) refl (λ a b. map-append (λ v. place v s) a b) (cellsOf C) (λ i. shapeAt (markedIn M i) least P C i) 0)
 
-  renumbered-length : length (renumbered (finalCells (markedIn M) least P C (cellsOf C))) ≡ length (finalCells (markedIn M) least P C (cellsOf C))
-  unfolding renumbered
-  renumbered-length = length-map (finalCells (markedIn M) least P C (cellsOf C)) (λ v. place v (usedOf (finalCells (markedIn M) least P C (cellsOf C))))
-
   pub kept-is : r .cells ≡ length (finalCells (markedIn M) least P C (cellsOf C)) / 4
   kept-is = omega (arith, t .cells)
 
@@ -99,7 +95,7 @@ module _ (P C M w : List ℕ) (n : ℕ) (least : Float) (r : Counts) (t : Tallie
   cells-asked q h = record {
     sized = t .sized;
     named = λ i b d. each-then (λ v e. omega arith) (numbers-are i b d);
-    fits = omega (arith, length-take-le (4 * r .cells) q (omega arith), t .cells, ap length cells-are, renumbered-length);
+    fits = omega (arith, length-take-le (4 * r .cells) q (omega arith), t .cells, ap length cells-are, renumbered-length (finalCells (markedIn M) least P C (cellsOf C)));
   }
 
   pub points-asked : (p : List ℕ) → n ≡ pointsOf P → r .points ≤ length p / 3 → PointsAsked P (take (3 * r .points) p) (take n w)
@@ -168,6 +164,20 @@ kept-number F lost p q = go (ltb (length p / 3) (pointsKept F)) (ltb (length q /
     go false true u = refl
     go false false true = refl
     go false false false = refl
+
+-- where it is an answer, with what it carries
+pub done-is : (F : List ℕ) (lost : ℕ) (p q : List ℕ) → numberOf (keptOf F lost p q) ≡ 0 → keptOf F lost p q ≡ Done (pointsKept F) (cellsKept F) lost
+unfolding keptOf
+done-is F lost p q = go (ltb (length p / 3) (pointsKept F)) (ltb (length q / 4) (cellsKept F)) (eqb (cellsKept F) 0)
+  where
+    go : (s t u : Bool)
+        → numberOf (cond s (Short (pointsKept F) (cellsKept F)) (cond t (Short (pointsKept F) (cellsKept F)) (cond u Nothing (Done (pointsKept F) (cellsKept F) lost)))) ≡ 0
+        → cond s (Short (pointsKept F) (cellsKept F)) (cond t (Short (pointsKept F) (cellsKept F)) (cond u Nothing (Done (pointsKept F) (cellsKept F) lost)))
+        ≡ Done (pointsKept F) (cellsKept F) lost
+    go true t u z = absurd (omega arith)
+    go false true u z = absurd (omega arith)
+    go false false true z = absurd (omega arith)
+    go false false false z = refl
 
 -- ---- marks that agree keep the same
 

@@ -1,9 +1,9 @@
 -- One cell is weighed, and the turn of `weigh_all`. Assumes nothing.
 use mathlib.Core.Path.{_≡_, refl, sym, ap, subst, _∙_}
 use mathlib.Core.Logic.{_⊎_, inl, inr, _≢_}
-use mathlib.Core.Bool.{Bool, true, false, cond, not}
+use mathlib.Core.Bool.{Bool, true, false, not}
 use mathlib.Core.List.{List, [], _∷_, _++_}
-use Prim.Native.Nat.{ℕ, suc, _+_, _*_, _≤_, _<_}
+use Prim.Native.Nat.{ℕ, _+_, _*_, _≤_, _<_}
 use native.Mathlib.Nat.{not-suc-le-zero}
 use native.Mathlib.Numerals.{add-one}
 use native.Mathlib.Omega.{arith}
@@ -13,24 +13,24 @@ use lib.Ieee.{Float}
 use lib.ListN.{length, getD, set, take, drop, replicate, length-set, length-drop, length-append}
 use lib.Seq.{length-take-le, length-front, getD-set-other, take-at, drop-at, take-set-le, drop-set-add, getD-drop, set-getD}
 use Rattle.lists.specs.Tests.{bit}
-use Rattle.lists.specs.Appearance.{place, Table}
+use Rattle.lists.specs.Appearance.{Table}
 use Rattle.lists.specs.Runs.{run, those}
 use Rattle.lists.proofs.Cases.{eqOr, below-set}
 use Rattle.lists.proofs.Appearing.{table-none}
 use Rattle.lists.proofs.Running.{run-last}
-use Rattle.lists.proofs.Passing.{those-next}
-use Rattle.mesh.specs.Mesh.{pointsOf, cellsOf, most, cellOf, Each, Points, inOrder, exchanged}
+use Rattle.mesh.specs.Mesh.{pointsOf, cellsOf, cellOf, Each, Points, inOrder, exchanged}
 use Rattle.mesh.specs.declared.Cell.{Cell}
 use Rattle.mesh.proofs.Named.{cell-points, each-exchanged, each-then}
 use Rattle.volume.specs.Volume.{verdictAt}
 use Rattle.volume.specs.declared.Verdict.{Verdict}
 use Rattle.volume.specs.declared.Verdict.the-variants.{Kept, Exchanged, Dropped}
-use Rattle.groups.specs.Parts.{Sized, Laid}
+use Rattle.groups.specs.Parts.{Laid}
 use Rattle.marked.specs.Weighed.{shaped, isDropped, shapeAt, dropsAt, finalCells, droppedCount}
 use Rattle.marked.specs.Used.{firstUses, usedOf}
 use Rattle.marked.specs.Parts.{CornersAsked, CornersNoted, markedIn, codeOf, codeAt, Few, WeighAsked, StayAsked, WeighedAs, WeighedAt, In, Tallied}
 use Rattle.marked.specs.declared.Counts.{Counts}
 use Rattle.marked.proofs.Using.{uses-append, uses-kept, uses-here}
+use Rattle.marked.proofs.Counting.{count-more}
 
 -- ---- one cell
 
@@ -158,10 +158,6 @@ unfolding codeAt shapeAt
 piece-used s false least P C i d = absurd (d refl)
 piece-used s true least P C i d = shape-used s (verdictAt P C i least) (cellOf C i) d
 
-one-more : (i : ℕ) (t : Bool) → length (cond t (i ∷ []) []) ≡ bit t
-one-more i true = refl
-one-more i false = refl
-
 module _ (P C M : List ℕ) (n : ℕ) (least : Float) where
   -- the cells that stay among the first i, and the points they use
   abbrev meshTo : ℕ → List ℕ
@@ -219,10 +215,7 @@ module _ (P C M : List ℕ) (n : ℕ) (least : Float) where
     unfolding droppedCount
     drops-next =
         let test : ℕ → Bool = λ j. dropsAt (markedIn M j) least P C j in
-        ap (λ (k : ℕ). length (those test k)) (add-one i)
-        ∙ ap length (those-next test i)
-        ∙ length-append (those test i) (cond (test i) (i ∷ []) [])
-        ∙ ap (λ (k : ℕ). length (those test i) + k) (one-more i (test i))
+        ap (λ (k : ℕ). length (those test k)) (add-one i) ∙ count-more test i
 
     pub tallying-step : Tallying w′ (i + 1) r
     tallying-step =

@@ -7,7 +7,7 @@ use Prim.Native.Nat.{ℕ, _+_, _*_, _/_, _≤_, _<_}
 use native.Mathlib.Omega.{arith}
 use borrow.Author.Tests.{lt-ltb, le-ltb}
 use lib.Dec.{ltb}
-use lib.ListN.{length, getD, take, drop, replicate}
+use lib.ListN.{length, take, drop, replicate}
 use lib.Seq.{length-take-le}
 use Rattle.refusals.specs.Rows.{first, under}
 use Rattle.refusals.specs.Causes.{workRows, eachRows, answerRows}
@@ -15,15 +15,13 @@ use Rattle.refusals.specs.declared.Counted.{Counted}
 use Rattle.refusals.specs.declared.Counted.the-variants.{Done, Refused, Short}
 use Rattle.mesh.specs.Mesh.{pointsOf, cellsOf}
 use Rattle.mesh.specs.Judged.{countRows, wholeRows, sizeRows, nameRows}
-use Rattle.lists.specs.Tables.{among, allFrom, on}
+use Rattle.lists.specs.Tables.{among, allFrom}
 use Rattle.refusals.proofs.Rows.{unless-none, unless-some, first-under}
 use Rattle.lists.proofs.Lent.{as-lent, as-lent-below, as-new}
 use Rattle.groups.specs.Parts.{Laid}
 use Rattle.groups.specs.Judged.{crossedRows}
 use Rattle.groups.proofs.Unrefused.{Answered, crossed-fits, sized-front}
-use Rattle.representatives.specs.Parts.{RoomFor, Storing, Listed, Found, Represents}
-use Rattle.representatives.specs.Highest.{representativesOf, centroidsOf}
-use Rattle.refusals.specs.Counted.{numberOf}
+use Rattle.representatives.specs.Parts.{Storing, Listed, Found, Represents}
 use Rattle.representatives.specs.Step.{countOf, inputRows, listedOf, representedOf, workAfter, RepresentativesDone}
 
 -- ---- short of room, or all
