@@ -1,11 +1,18 @@
 -- A text in a file, read from the front. b is the list of the file's bytes.
 use mathlib.Core.Bool.{cond}
 use mathlib.Core.List.{List, [], _∷_}
+use Prim.Native.Char.{code}
 use Prim.Native.Nat.{ℕ, suc}
+use Prim.Native.String.{String, [] as none, _∷_ as _then_}
 use lib.Dec.{eqb, ltb}
 use lib.ListN.{length, getD}
 use Rattle.decimal.specs.declared.Place.{Place}
 use Rattle.decimal.specs.declared.Place.the-variants as place
+
+-- the bytes of a text
+unfoldable pub textOf : String → List ℕ
+textOf none = []
+textOf (c then s) = code c ∷ textOf s
 
 -- where a text ends that stands at a place: refused with 14 at the first byte that departs, with 11 where the file ends before any does
 unfoldable pub textAt : List ℕ → List ℕ → ℕ → Place

@@ -1,4 +1,4 @@
--- The turn of `compare`: the number of each cell against the word that the file has for it. Assumes nothing.
+-- Cells and numbers that stand in a file. Assumes nothing.
 use mathlib.Core.Path.{_≡_, refl, sym, ap, _∙_}
 use mathlib.Core.Logic.{_⊎_, _≢_}
 use mathlib.Core.Bool.{Bool, true, false}
@@ -6,87 +6,116 @@ use mathlib.Core.List.{List, []}
 use Prim.Native.Nat.{ℕ, _+_, _*_, _/_, _≤_, _<_}
 use native.Mathlib.Omega.{arith}
 use lib.ListN.{length, getD, take, drop, replicate}
-use Rattle.mesh.specs.Mesh.{cellsOf}
+use Rattle.mesh.specs.Mesh.{cellsOf, Cells, cellOf}
+use Rattle.mesh.specs.declared.Cell.{Cell}
 use Rattle.lists.specs.Tables.{same, allBelow}
-use Rattle.lists.proofs.Listing.{same-on, same-off, same-end}
-use Rattle.words.specs.Words.{wordAt, placeOf, wordsAt, spanOf}
-use Rattle.words.proofs.Words.{in-span, words-at, length-words}
-use Rattle.components.specs.Parts.{Askable, NumberedAt, Linked}
+use Rattle.lists.proofs.Listing.{same-on, same-off, same-end, same-length}
+use Rattle.words.specs.Words.{wordAt, wordsAt}
+use Rattle.words.specs.Parts.{quadAt}
+use Rattle.words.specs.declared.Quad.{Quad}
+use Rattle.words.proofs.Words.{length-words, words-at, length-cells, vertex-at}
+use Rattle.mesh.proofs.Named.{cell-points, cell-is}
+use Rattle.links.specs.Parts.{Forest, FourAsked}
 use Rattle.components.specs.Numbers.{componentNumbers}
+use Rattle.components.specs.Parts.{Askable, NumberedAt, Linked}
 use Rattle.components.proofs.Patterns.{length-components}
 use Rattle.components.proofs.Counting.{alike-numbers}
-use Rattle.components.proofs.Numbering.{Numbering, numbering-start, asks-for, number-is, numbering-on}
+use Rattle.components.proofs.Numbering.{Numbering, numbering-start, asks-for, count-small, number-is, numbering-on}
+use Rattle.file_components.specs.Blocks.{cellsIn, numbersIn, rightNumbers}
+use Rattle.file_components.specs.declared.Blocks.{Blocks}
 
--- the cells in a file, as many as there are words for
-pub cells-in : (big led : Bool) (b : List ℕ) (at cells : ℕ) → cellsOf (wordsAt big led b at (4 * cells)) ≡ cells
-cells-in big led b at cells = omega (arith, length-words big led b at (4 * cells))
-
-pub first-fits : (led : Bool) (at cells i size : ℕ) → at + spanOf led (4 * cells) ≤ size → i < cells → at + 4 * placeOf led (i * 4) + 4 ≤ size
-first-fits led at cells i size s h = let k : i * 4 < 4 * cells = omega arith in omega (arith, in-span led (i * 4) (4 * cells) k)
-
-pub number-fits : (at cells i size : ℕ) → at + 4 * cells ≤ size → i < cells → at + 4 * placeOf false i + 4 ≤ size
-unfolding placeOf
-number-fits at cells i size s h = omega arith
-
-pub record Comparing (big led : Bool) (b : List ℕ) (at numbers cells : ℕ) (w : List ℕ) (n count i : ℕ) : Type 0 where
-  pub numbering : Numbering (wordsAt big led b at (4 * cells)) w n count i
-  pub left : same (wordsAt big false b numbers cells) (componentNumbers (wordsAt big led b at (4 * cells)) cells)
-      ≡ same (drop i (wordsAt big false b numbers cells)) (drop i (componentNumbers (wordsAt big led b at (4 * cells)) cells))
-
-module _ (big led : Bool) (b : List ℕ) (at numbers cells : ℕ) where
-  abbrev W : List ℕ
-  W = wordsAt big false b numbers cells
-
+module _ (b : List ℕ) (s : Blocks) where
   abbrev C : List ℕ
-  C = wordsAt big led b at (4 * cells)
+  C = cellsIn b s
 
   abbrev N : List ℕ
-  N = componentNumbers C cells
+  N = componentNumbers C (s .n)
 
-  pub comparing-start : {w : List ℕ} {n : ℕ} → Linked C w n → Comparing big led b at numbers cells w n 0 0
-  comparing-start l = record { numbering = numbering-start l; left = refl }
+  cells-long : length C ≡ 4 * s .n
+  cells-long = length-cells (s .big) (s .stride) b (s .cells) (s .n)
 
-  module _ (w : List ℕ) (n count i : ℕ) (l : Comparing big led b at numbers cells w n count i) where
-    module _ (h : i < cells) (v : ℕ) (ev : v ≡ wordAt big b (at + 4 * placeOf led (i * 4))) where
-      i-in : i < cellsOf C
-      i-in = omega (arith, cells-in big led b at cells)
+  numbers-long : length (numbersIn b s) ≡ s .m
+  numbers-long = length-words (s .big) b (s .numbers) (s .m)
 
-      v-is : v ≡ getD C (i * 4) 0
-      v-is = ev ∙ sym (words-at big led b at (4 * cells) (i * 4) (omega arith))
+  -- as many as are said
+  pub cells-in : cellsOf C ≡ s .n
+  cells-in = omega (arith, cells-long)
 
-      pub comparing-asks : Askable n w v count
-      comparing-asks = asks-for (l .numbering) i-in v v-is
+  -- a word that was read is a vertex of the cell i
+  pub vertex-is : (i k : ℕ) {x y : ℕ} → i < s .n → k < 4 → x ≡ y → y ≡ wordAt (s .big) b (s .cells + 4 * (s .stride * i) + 4 * k) → x ≡ getD C (i * 4 + k) 0
+  vertex-is i k h l e f =
+      let m : 4 * i + k ≡ i * 4 + k = omega arith in
+      e ∙ f ∙ sym (vertex-at (s .big) (s .stride) b (s .cells) (s .n) i k h l) ∙ ap (λ (j : ℕ). getD C j 0) m
 
-      pub count-fits : count + 1 < 4294967296
-      count-fits = omega (arith, Rattle.components.proofs.Numbering.count-small (l .numbering) i-in v v-is)
+  pub first-is : (i : ℕ) {x y : ℕ} → i < s .n → x ≡ y → y ≡ wordAt (s .big) b (s .cells + 4 * (s .stride * i)) → x ≡ getD C (i * 4) 0
+  first-is i h e f =
+      let z : s .cells + 4 * (s .stride * i) ≡ s .cells + 4 * (s .stride * i) + 4 * 0 = omega arith in
+      let m : i * 4 + 0 ≡ i * 4 = omega arith in
+      vertex-is i 0 h (omega arith) e (f ∙ ap (wordAt (s .big) b) z) ∙ ap (λ (j : ℕ). getD C j 0) m
 
-      module _ (w′ : List ℕ) (k : ℕ) (kept : length w′ ≡ length w) (a : NumberedAt n w w′ v count k) (x : ℕ) (ex : x ≡ wordAt big b (numbers + 4 * placeOf false i)) where
-        k-is : k ≡ getD N i 0
-        k-is =
-            number-is (l .numbering) i-in v v-is w′ k kept a ∙ ap (λ (m : ℕ). getD (componentNumbers C m) i 0) (cells-in big led b at cells)
+  -- the four words that were read at once are the cell
+  pub cell-read : {i a₀ b₀ c₀ d₀ : ℕ} {q : Quad} → i < s .n → q ≡ quadAt (s .big) b (s .cells + 4 * (s .stride * i)) → a₀ ≡ q .a → b₀ ≡ q .b → c₀ ≡ q .c → d₀ ≡ q .d
+      → _≡_ {A = Cell} (record { a = a₀; b = b₀; c = c₀; d = d₀ }) (cellOf C i)
+  cell-read {i} h e ea eb ec ed =
+      cell-is C i (i * 4) (omega arith) (first-is i h ea (ap (λ (r : Quad). r .a) e)) (vertex-is i 1 h (omega arith) eb (ap (λ (r : Quad). r .b) e))
+      (vertex-is i 2 h (omega arith) ec (ap (λ (r : Quad). r .c) e)) (vertex-is i 3 h (omega arith) ed (ap (λ (r : Quad). r .d) e))
 
-        x-is : x ≡ getD W i 0
-        x-is = ex ∙ sym (words-at big false b numbers cells i h)
+  pub cell-asks : {i : ℕ} {P : List ℕ} {k : Cell} → i < s .n → Cells C (length P) → Forest P → k ≡ cellOf C i → FourAsked P k
+  cell-asks {i} {P} h v f e = record { forest = f; points = cell-points C (length P) i v (omega (arith, cells-in)) e; small = v .small }
 
-        in-w : i < length W
-        in-w = omega (arith, length-words big false b numbers cells)
+  -- numbers that are not as many are not right
+  pub uneven : s .m ≢ s .n → false ≡ rightNumbers b s
+  uneven d = sym (same-length (numbersIn b s) N (λ e. d (sym numbers-long ∙ e ∙ length-components C (s .n))))
 
-        in-n : i < length N
-        in-n = omega (arith, length-components C cells)
+  -- ---- the turn of `compare`
 
-        pub comparing-off : x ≢ k → false ≡ same W N
-        comparing-off d = sym (l .left ∙ same-off W N i in-w in-n (λ e. d (x-is ∙ e ∙ sym k-is)))
+  pub record Comparing (w : List ℕ) (n count i : ℕ) : Type 0 where
+    pub numbering : Numbering C w n count i
+    pub left : rightNumbers b s ≡ same (drop i (numbersIn b s)) (drop i N)
 
-        pub comparing-on : x ≡ k → (count′ : ℕ) → ((k ≡ count) × (count′ ≡ count + 1)) ⊎ ((k ≢ count) × (count′ ≡ count))
-            → Comparing big led b at numbers cells w′ n count′ (i + 1)
-        comparing-on e count′ c = record {
-          numbering = numbering-on (l .numbering) i-in v v-is w′ k kept a count′ c;
-          left = l .left ∙ same-on W N i in-w in-n (sym x-is ∙ e ∙ k-is);
-        }
+  module _ (even : s .m ≡ s .n) where
+    pub comparing-start : {w : List ℕ} {n : ℕ} → Linked C w n → Comparing w n 0 0
+    comparing-start l = record { numbering = numbering-start l; left = refl }
 
-    pub comparing-end : cells ≤ i → true ≡ same W N
-    comparing-end h = sym (l .left ∙ same-end W N i (omega (arith, length-words big false b numbers cells)) (omega (arith, length-components C cells)))
+    module _ {w : List ℕ} {n count i : ℕ} (l : Comparing w n count i) where
+      module _ (h : i < s .n) {v : ℕ} (ev : v ≡ getD C (i * 4) 0) where
+        i-in : i < cellsOf C
+        i-in = omega (arith, cells-in)
 
-  -- the numbers where all points are in one group
-  pub alike-told : {w : List ℕ} {n : ℕ} {r : Bool} → Linked C w n → allBelow 1 (take n w) ≡ true → r ≡ same W (replicate cells 0) → r ≡ same W N
-  alike-told {w} {n} l z e = e ∙ ap (same W) (sym (ap (componentNumbers C) (sym (cells-in big led b at cells)) ∙ alike-numbers C w n l z ∙ ap (λ (m : ℕ). replicate m 0) (cells-in big led b at cells)))
+        pub comparing-asks : Askable n w v count
+        comparing-asks = asks-for (l .numbering) i-in v ev
+
+        pub count-fits : count + 1 < 4294967296
+        count-fits = omega (arith, count-small (l .numbering) i-in v ev)
+
+        module _ (w′ : List ℕ) (k : ℕ) (kept : length w′ ≡ length w) (a : NumberedAt n w w′ v count k) {x y : ℕ} (ex : x ≡ y) (ey : y ≡ wordAt (s .big) b (s .numbers + 4 * i)) where
+          k-is : k ≡ getD N i 0
+          k-is = number-is (l .numbering) i-in v ev w′ k kept a ∙ ap (λ (m : ℕ). getD (componentNumbers C m) i 0) cells-in
+
+          x-is : x ≡ getD (numbersIn b s) i 0
+          x-is = ex ∙ ey ∙ sym (words-at (s .big) b (s .numbers) (s .m) i (omega arith))
+
+          in-w : i < length (numbersIn b s)
+          in-w = omega (arith, numbers-long)
+
+          in-n : i < length N
+          in-n = omega (arith, length-components C (s .n))
+
+          pub comparing-off : x ≢ k → false ≡ rightNumbers b s
+          comparing-off d = sym (l .left ∙ same-off (numbersIn b s) N i in-w in-n (λ e. d (x-is ∙ e ∙ sym k-is)))
+
+          pub comparing-on : x ≡ k → (count′ : ℕ) → ((k ≡ count) × (count′ ≡ count + 1)) ⊎ ((k ≢ count) × (count′ ≡ count)) → Comparing w′ n count′ (i + 1)
+          comparing-on e count′ c = record {
+            numbering = numbering-on (l .numbering) i-in v ev w′ k kept a count′ c;
+            left = l .left ∙ same-on (numbersIn b s) N i in-w in-n (sym x-is ∙ e ∙ k-is);
+          }
+
+      pub comparing-end : s .n ≤ i → true ≡ rightNumbers b s
+      comparing-end h = sym (l .left ∙ same-end (numbersIn b s) N i (omega (arith, numbers-long)) (omega (arith, length-components C (s .n))))
+
+    -- the numbers where all points are in one group
+    pub alike-told : {w : List ℕ} {n : ℕ} {r : Bool} → Linked C w n → allBelow 1 (take n w) ≡ true
+        → r ≡ same (wordsAt (s .big) b (s .numbers) (s .n)) (replicate (s .n) 0) → r ≡ rightNumbers b s
+    alike-told {w} {n} l z e =
+        e ∙ ap (λ (m : ℕ). same (wordsAt (s .big) b (s .numbers) m) (replicate (s .n) 0)) (sym even)
+        ∙ ap (same (numbersIn b s)) (sym (ap (componentNumbers C) (sym cells-in) ∙ alike-numbers C w n l z ∙ ap (λ (m : ℕ). replicate m 0) cells-in))

@@ -1,3 +1,3 @@
--- Laws that the proofs of file_components share.
-pub mod Joining
+-- Laws that the proofs of file_components share, and of component numbers in a file.
 pub mod Comparing
+pub mod Small

@@ -1,2 +1,3 @@
 -- The definitions that the contracts of file_components cite.
-pub mod Stored
+pub mod Blocks
+pub mod Parts

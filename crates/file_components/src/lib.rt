@@ -1,87 +1,82 @@
-// The component numbers of the cells in a file: written behind the cells, and compared with those that a file has.
+// Where a file has a mesh, and the component numbers of its cells: written behind the cells, and compared with those that a file has.
+use mesh::Cell;
 ghost use mathlib.Core.Path.{_≡_};
-ghost use mathlib.Core.Bool.{false};
 ghost use mathlib.Core.List.{[]};
-ghost use Prim.Native.Nat.{ℕ, _+_, _*_, _≤_};
+ghost use Prim.Native.Nat.{ℕ, _+_, _*_, _≤_, _<_};
 ghost use lib.ListN.{length, take};
 ghost use lib.Seq.{sets};
 ghost use Rattle.mesh.specs.Mesh.{cellsOf, Cells};
 ghost use Rattle.lists.specs.Tables.{same, allBelow};
-ghost use Rattle.words.specs.Words.{bytesOf, wordsAt, spanOf};
+ghost use Rattle.words.specs.Words.{bytesOf};
 ghost use Rattle.links.specs.Parts.{Forest, JoinedCell, Joint};
 ghost use Rattle.components.specs.Parts.{Linked, Fits};
 ghost use Rattle.components.specs.Numbers.{componentNumbers};
-ghost use Rattle.file_components.specs.Stored.{Told, Noted};
-use mesh::Cell;
+ghost use Rattle.file_components.specs.Blocks.{cellsIn, rightNumbers};
+ghost use Rattle.file_components.specs.Parts.{CellsStand, Stands, Told, Noted};
+
+// Where a file has a mesh: p points, n cells and m component numbers, each kind from a place on. The words have their high byte first where
+// `big` says so, and a cell starts `stride` words behind the one before it.
+pub struct Blocks {
+    pub p: usize,
+    pub n: usize,
+    pub m: usize,
+    pub points: usize,
+    pub cells: usize,
+    pub numbers: usize,
+    pub stride: usize,
+    pub big: bool,
+}
 
 // Joins the vertices of the cell i.
-fn join_cell(file: &[u8], at: usize, big: bool, led: bool, parent: &mut [u32], i: usize)
-    requires { ⌜ Cells (wordsAt big led (now file) at (i * 4 + 4)) (length (now parent)) × Forest (now parent) × (at + spanOf led (i * 4 + 4) ≤ length (now file)) ⌝ }
-    ensures { λ _. ⌜ JoinedCell (wordsAt big led (now (file .entry)) at (i * 4 + 4)) [] (now (parent .entry)) (now (parent .exit)) i ⌝ }
+fn join_cell(file: &[u8], s: Blocks, parent: &mut [u32], i: usize)
+    requires { ⌜ CellsStand (now file) s × Cells (cellsIn (now file) s) (length (now parent)) × Forest (now parent) × (i < s .n) ⌝ }
+    ensures { λ _. ⌜ JoinedCell (cellsIn (now (file .entry)) s) [] (now (parent .entry)) (now (parent .exit)) i ⌝ }
 {
-    let first = i * 4;
-    let a = lists::wide(words::word_of(file, at, big, led, first));
-    let b = lists::wide(words::word_of(file, at, big, led, first + 1));
-    let c = lists::wide(words::word_of(file, at, big, led, first + 2));
-    let d = lists::wide(words::word_of(file, at, big, led, first + 3));
+    let q = words::quad_at(file, s.cells + 4 * (s.stride * i), s.big);
+    let a = lists::wide(q.a);
+    let b = lists::wide(q.b);
+    let c = lists::wide(q.c);
+    let d = lists::wide(q.d);
     links::join_four(parent, Cell { a, b, c, d });
 }
 
 // The groups of the points that cells in a file join, from a table that holds anything.
-fn link(file: &[u8], at: usize, big: bool, led: bool, cells: usize, parent: &mut [u32])
-    requires { ⌜ Cells (wordsAt big led (now file) at (4 * cells)) (length (now parent)) × (at + spanOf led (4 * cells) ≤ length (now file)) ⌝ }
-    ensures { λ _. ⌜ Joint (wordsAt big led (now (file .entry)) at (4 * cells)) [] (now (parent .exit)) ⌝ }
+fn link(file: &[u8], s: Blocks, parent: &mut [u32])
+    requires { ⌜ CellsStand (now file) s × Cells (cellsIn (now file) s) (length (now parent)) ⌝ }
+    ensures { λ _. ⌜ Joint (cellsIn (now (file .entry)) s) [] (now (parent .exit)) ⌝ }
 {
     links::start(parent);
     let mut i: usize = 0;
-    while i < cells {
-        join_cell(file, at, big, led, parent, i);
+    while i < s.n {
+        join_cell(file, s, parent, i);
         i += 1;
     }
 }
 
 // Links the points of the cells in the first n entries of the work table, and tells whether all points are in the group of point 0.
-fn prepare(
-    file: &[u8],
-    at: usize,
-    big: bool,
-    led: bool,
-    cells: usize,
-    work: &mut [u32],
-    n: usize,
-) -> bool
-    requires { ⌜ Cells (wordsAt big led (now file) at (4 * cells)) n × (length (now work) ≡ 2 * n) × (at + spanOf led (4 * cells) ≤ length (now file)) ⌝ }
-    ensures { λ one. ⌜ Linked (wordsAt big led (now (file .entry)) at (4 * cells)) (now (work .exit)) n × (one ≡ allBelow 1 (take n (now (work .exit)))) ⌝ }
+fn prepare(file: &[u8], s: Blocks, work: &mut [u32], n: usize) -> bool
+    requires { ⌜ CellsStand (now file) s × Cells (cellsIn (now file) s) n × (length (now work) ≡ 2 * n) ⌝ }
+    ensures { λ one. ⌜ Linked (cellsIn (now (file .entry)) s) (now (work .exit)) n × (one ≡ allBelow 1 (take n (now (work .exit)))) ⌝ }
 {
-    link(file, at, big, led, cells, &mut work[..n]);
+    link(file, s, &mut work[..n]);
     components::settle(work, n)
 }
 
-// Whether the words at `numbers` are the numbers of the cells by the first appearance of their groups. Where `one` tells that all points
-// are in one group, every number is 0.
-fn compare(
-    file: &[u8],
-    at: usize,
-    numbers: usize,
-    big: bool,
-    led: bool,
-    cells: usize,
-    work: &mut [u32],
-    n: usize,
-    one: bool,
-) -> bool
-    requires { ⌜ Linked (wordsAt big led (now file) at (4 * cells)) (now work) n × (at + spanOf led (4 * cells) ≤ length (now file)) × (numbers + 4 * cells ≤ length (now file)) × (one ≡ allBelow 1 (take n (now work))) ⌝ }
-    ensures { λ r. ⌜ r ≡ same (wordsAt big false (now (file .entry)) numbers cells) (componentNumbers (wordsAt big led (now (file .entry)) at (4 * cells)) cells) ⌝ }
+// Whether a file has the numbers of its cells by the first appearance of their groups. Where `one` tells that all points are in one group,
+// every number is 0.
+fn compare(file: &[u8], s: Blocks, work: &mut [u32], n: usize, one: bool) -> bool
+    requires { ⌜ Stands (now file) s × (s .m ≡ s .n) × Linked (cellsIn (now file) s) (now work) n × (one ≡ allBelow 1 (take n (now work))) ⌝ }
+    ensures { λ r. ⌜ r ≡ rightNumbers (now (file .entry)) s ⌝ }
 {
     if one {
-        return words::all_are(file, numbers, big, cells, 0);
+        return words::all_are(file, s.numbers, s.big, s.n, 0);
     }
     let mut count: usize = 0;
     let mut i: usize = 0;
-    while i < cells {
-        let v = lists::wide(words::word_of(file, at, big, led, i * 4));
+    while i < s.n {
+        let v = lists::wide(words::word(file, s.cells + 4 * (s.stride * i), s.big));
         let k = components::number_at(work, n, v, count);
-        if lists::wide(words::word_of(file, numbers, big, false, i)) != k {
+        if lists::wide(words::word(file, s.numbers + 4 * i, s.big)) != k {
             return false;
         }
         if k == count {
@@ -92,22 +87,18 @@ fn compare(
     true
 }
 
-// Whether a file has at `numbers` the component numbers of the cells that it has at `at`; the work table, 2 entries a point, is left zero.
-pub fn numbers_right(
-    file: &[u8],
-    at: usize,
-    numbers: usize,
-    big: bool,
-    led: bool,
-    cells: usize,
-    work: &mut [u32],
-) -> bool
-    requires { ⌜ Fits (wordsAt big led (now file) at (4 * cells)) (now work) × (at + spanOf led (4 * cells) ≤ length (now file)) × (numbers + 4 * cells ≤ length (now file)) ⌝ }
-    ensures { λ r. ⌜ Told big led (now (file .entry)) at numbers cells (now (work .entry)) (now (work .exit)) r ⌝ }
+// Whether the component numbers that a file has are those of its cells; the work table, 2 entries a point, is left zero.
+pub fn numbers_right(file: &[u8], s: Blocks, work: &mut [u32]) -> bool
+    requires { ⌜ Stands (now file) s × Fits (cellsIn (now file) s) (now work) ⌝ }
+    ensures { λ r. ⌜ Told (now (file .entry)) s (now (work .entry)) (now (work .exit)) r ⌝ }
 {
+    if s.m != s.n {
+        lists::zero(work);
+        return false;
+    }
     let n = work.len() / 2;
-    let one = prepare(file, at, big, led, cells, work, n);
-    let right = compare(file, at, numbers, big, led, cells, work, n, one);
+    let one = prepare(file, s, work, n);
+    let right = compare(file, s, work, n, one);
     lists::zero(work);
     right
 }

@@ -1,7 +1,7 @@
 // Writes the file of a small mesh, reads it back, and reads what is left of it when it is cut or changed. Prints a line for each.
+use file_steps::Loaded;
 use libc::STDOUT_FILENO;
-use mesh_file::Loaded;
-use mesh_file::Written;
+use refusals::Counted;
 
 fn print_text(text: &[u8]) {
     io::write_all(STDOUT_FILENO, text);
@@ -48,17 +48,17 @@ fn write_sample(file: &mut [u8]) {
     ];
     let cells: [u32; 8] = [0, 1, 2, 3, 3, 4, 1, 1];
     let mut work = [7u32; 11];
-    let a = mesh_file::write_mesh(&points, &cells, file, &mut work);
+    let a = mesh_writer::write_mesh(&points, &cells, file, &mut work);
     match a {
-        Written::Done(bytes) => {
+        Counted::Done(bytes) => {
             print_text(b"written");
             print_number(bytes);
         }
-        Written::Refused(number) => {
+        Counted::Refused(number) => {
             print_text(b"refused");
             print_number(number as u64);
         }
-        Written::Short(bytes) => {
+        Counted::Short(bytes) => {
             print_text(b"9");
             print_number(bytes);
         }
@@ -92,7 +92,7 @@ fn show(file: &[u8]) {
     let mut points = [7u32; 17];
     let mut cells = [7u32; 9];
     let mut work = [7u32; 11];
-    let a = mesh_file::read_mesh(file, &mut points, &mut cells, &mut work);
+    let a = mesh_reader::read_mesh(file, &mut points, &mut cells, &mut work);
     print_loaded(a);
     print_table(b" points", &points);
     print_table(b" cells", &cells);
@@ -104,7 +104,7 @@ fn outcome(file: &[u8]) -> Loaded {
     let mut points = [7u32; 15];
     let mut cells = [7u32; 8];
     let mut work = [7u32; 10];
-    mesh_file::read_mesh(file, &mut points, &mut cells, &mut work)
+    mesh_reader::read_mesh(file, &mut points, &mut cells, &mut work)
 }
 
 // The first part of the file that is not refused with 11.

@@ -203,7 +203,7 @@ fn replay_all(tape: &[u32], bytes: &[u8]) {
 // The tape in words.
 fn unpacked(bytes: &[u8; 262_144]) -> [u32; 65_536] {
     let mut tape = [0u32; 65_536];
-    words::get_words(bytes, 0, false, false, &mut tape);
+    words::get_words(bytes, 0, false, &mut tape);
     tape
 }
 

@@ -23,16 +23,14 @@ use Rattle.keep.proofs.Theorems.{cover-one, crust-one}
 use Rattle.components.specs.declared.OnePiece.{OnePiece}
 use Rattle.components.specs.Step.{ComponentsDone, OnePieceDone}
 use Rattle.components.proofs.Theorems.{components-one, one-piece-one}
-use Rattle.mesh_file.specs.declared.Written.{Written}
-use Rattle.mesh_file.specs.declared.Loaded.{Loaded}
-use Rattle.mesh_file.specs.Writer.{Writes}
-use Rattle.mesh_file.specs.Read.{ReadDone}
-use Rattle.mesh_file.proofs.Writers.{write-one}
-use Rattle.mesh_file.proofs.Meaning.{read-one}
-use Rattle.vtk_layout.specs.Layout.{locatedOf}
-use Rattle.vtk_reader.specs.Read.{LoadDone}
-use Rattle.vtk_reader.proofs.Meaning.{read-one as vtk-read-one}
-use Rattle.sporeferry.specs.Calls.{Called, Tells, TellsPlan, planned, refined, gridded, counted, piece, kept, written, loaded}
+use Rattle.refusals.specs.Rows.{Row}
+use Rattle.file_components.specs.declared.Blocks.{Blocks}
+use Rattle.file_steps.specs.Reader.{Reads}
+use Rattle.file_steps.specs.Writer.{Writes}
+use Rattle.file_steps.proofs.Theorems.{write-one, read-one}
+use Rattle.mesh_reader.specs.Step.{ReadDone}
+use Rattle.vtk_reader.specs.Step.{ReadDone as VtkReadDone}
+use Rattle.sporeferry.specs.Calls.{Called, Tells, TellsPlan, planned, refined, gridded, counted, piece, kept, loaded}
 use Rattle.sporeferry.specs.declared.outcomes.Answer.{Answer}
 use Rattle.sporeferry.specs.declared.outcomes.PlanAnswer.{PlanAnswer}
 
@@ -143,15 +141,19 @@ module _ (P C : List ℕ) where
   pub sf-one-piece-one : (w : List ℕ) → Determined (λ (z : Answer × List ℕ). Called piece (λ a. OnePieceDone P C w a (z .1)) (z .0))
   sf-one-piece-one w = called-one (OnePieceDone P C w) (λ a. tells-one _ _) (one-piece-one P C w)
 
-  -- both writers: f is the file, n how long it is
-  pub sf-write-one : (n : ℕ) (f o w : List ℕ)
-      → Determined (λ (z : Answer × List ℕ × List ℕ). Called written (λ a. Writes n f P C o w a (z .1) (z .2)) (z .0))
-  sf-write-one n f o w = called-two (Writes n f P C o w) (λ a. tells-one _ _) (write-one n f P C o w)
+  -- both writers: f is the file, n how long it is, e the work entries a point
+  pub sf-write-one : (e n : ℕ) (f o w : List ℕ)
+      → Determined (λ (z : Answer × List ℕ × List ℕ). Called counted (λ a. Writes e n f P C o w a (z .1) (z .2)) (z .0))
+  sf-write-one e n f o w = called-two (Writes e n f P C o w) (λ a. tells-one _ _) (write-one e n f P C o w)
+
+-- both readers: rows are the refusals by the file alone, s says where its mesh stands
+module _ (rows : List Row) (b : List ℕ) (s : Blocks) (x y w : List ℕ) where
+  pub sf-read-one : Determined (λ (z : Answer × List ℕ × List ℕ × List ℕ). Called loaded (λ a. Reads rows b s x y w a (z .1) (z .2) (z .3)) (z .0))
+  sf-read-one = called-three (Reads rows b s x y w) (λ a. tells-one _ _) (read-one rows b s x y w)
 
 module _ (b x y w : List ℕ) where
   pub sf-read-mesh-one : Determined (λ (z : Answer × List ℕ × List ℕ × List ℕ). Called loaded (λ a. ReadDone b x y w a (z .1) (z .2) (z .3)) (z .0))
-  sf-read-mesh-one = called-three (ReadDone b x y w) (λ a. tells-one _ _) (read-one b x y w)
+  sf-read-mesh-one = sf-read-one _ b _ x y w
 
-  pub sf-read-vtk-one
-      : Determined (λ (z : Answer × List ℕ × List ℕ × List ℕ). Called loaded (λ a. LoadDone (locatedOf b) b x y w a (z .1) (z .2) (z .3)) (z .0))
-  sf-read-vtk-one = called-three (LoadDone (locatedOf b) b x y w) (λ a. tells-one _ _) (vtk-read-one b x y w)
+  pub sf-read-vtk-one : Determined (λ (z : Answer × List ℕ × List ℕ × List ℕ). Called loaded (λ a. VtkReadDone b x y w a (z .1) (z .2) (z .3)) (z .0))
+  sf-read-vtk-one = sf-read-one _ b _ x y w

@@ -1,10 +1,9 @@
 // The writers and readers of both files.
-ghost use Rattle.mesh_file.specs.Write.{WriteDone};
-ghost use Rattle.mesh_file.specs.Read.{ReadDone};
-ghost use Rattle.vtk_layout.specs.Layout.{locatedOf};
-ghost use Rattle.vtk_writer.specs.Write.{WriteDone as VtkWriteDone};
-ghost use Rattle.vtk_reader.specs.Read.{LoadDone};
-ghost use Rattle.sporeferry.specs.Calls.{Called, written, loaded};
+ghost use Rattle.mesh_writer.specs.Step.{WriteDone};
+ghost use Rattle.mesh_reader.specs.Step.{ReadDone};
+ghost use Rattle.vtk_writer.specs.Step.{WriteDone as VtkWriteDone};
+ghost use Rattle.vtk_reader.specs.Step.{ReadDone as VtkReadDone};
+ghost use Rattle.sporeferry.specs.Calls.{Called, counted, loaded};
 use crate::outcomes;
 use crate::outcomes::Answer;
 
@@ -15,9 +14,9 @@ pub extern "C" fn sf_write_mesh(
     file: &mut [u8],
     work: &mut [u32],
 ) -> Answer
-    ensures { λ r. ⌜ Called written (λ a. WriteDone (now (points .entry)) (now (cells .entry)) (now (file .entry)) (now (work .entry)) a (now (file .exit)) (now (work .exit))) r ⌝ }
+    ensures { λ r. ⌜ Called counted (λ a. WriteDone (now (points .entry)) (now (cells .entry)) (now (file .entry)) (now (work .entry)) a (now (file .exit)) (now (work .exit))) r ⌝ }
 {
-    outcomes::of_written(mesh_file::write_mesh(points, cells, file, work))
+    outcomes::of_counted(mesh_writer::write_mesh(points, cells, file, work))
 }
 
 #[no_mangle]
@@ -29,7 +28,7 @@ pub extern "C" fn sf_read_mesh(
 ) -> Answer
     ensures { λ r. ⌜ Called loaded (λ a. ReadDone (now (file .entry)) (now (points .entry)) (now (cells .entry)) (now (work .entry)) a (now (points .exit)) (now (cells .exit)) (now (work .exit))) r ⌝ }
 {
-    outcomes::of_loaded(mesh_file::read_mesh(file, points, cells, work))
+    outcomes::of_loaded(mesh_reader::read_mesh(file, points, cells, work))
 }
 
 #[no_mangle]
@@ -39,9 +38,9 @@ pub extern "C" fn sf_write_vtk(
     file: &mut [u8],
     work: &mut [u32],
 ) -> Answer
-    ensures { λ r. ⌜ Called written (λ a. VtkWriteDone (now (points .entry)) (now (cells .entry)) (now (file .entry)) (now (work .entry)) a (now (file .exit)) (now (work .exit))) r ⌝ }
+    ensures { λ r. ⌜ Called counted (λ a. VtkWriteDone (now (points .entry)) (now (cells .entry)) (now (file .entry)) (now (work .entry)) a (now (file .exit)) (now (work .exit))) r ⌝ }
 {
-    outcomes::of_written(vtk_writer::write_vtk(points, cells, file, work))
+    outcomes::of_counted(vtk_writer::write_vtk(points, cells, file, work))
 }
 
 #[no_mangle]
@@ -51,7 +50,7 @@ pub extern "C" fn sf_read_vtk(
     cells: &mut [u32],
     work: &mut [u32],
 ) -> Answer
-    ensures { λ r. ⌜ Called loaded (λ a. LoadDone (locatedOf (now (file .entry))) (now (file .entry)) (now (points .entry)) (now (cells .entry)) (now (work .entry)) a (now (points .exit)) (now (cells .exit)) (now (work .exit))) r ⌝ }
+    ensures { λ r. ⌜ Called loaded (λ a. VtkReadDone (now (file .entry)) (now (points .entry)) (now (cells .entry)) (now (work .entry)) a (now (points .exit)) (now (cells .exit)) (now (work .exit))) r ⌝ }
 {
     outcomes::of_loaded(vtk_reader::read_vtk(file, points, cells, work))
 }

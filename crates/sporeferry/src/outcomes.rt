@@ -1,11 +1,10 @@
 // A step's outcome as C sees it: a number and values.
 ghost use mathlib.Core.List.{[], _∷_};
-ghost use Rattle.sporeferry.specs.Calls.{Tells, planned, refined, gridded, counted, piece, kept, written, loaded};
+ghost use Rattle.sporeferry.specs.Calls.{Tells, planned, refined, gridded, counted, piece, kept, loaded};
 use components::OnePiece;
+use file_steps::Loaded;
 use grid::Gridded;
 use marked::Kept;
-use mesh_file::Loaded;
-use mesh_file::Written;
 use plan::Planned;
 use refine::Refined;
 use refusals::Counted;
@@ -148,16 +147,6 @@ pub fn of_kept(a: Kept) -> Answer
             third: 0,
         },
         Kept::Nothing => counts(10, 0),
-    }
-}
-
-pub fn of_written(a: Written) -> Answer
-    ensures { λ r. ⌜ written a r ⌝ }
-{
-    match a {
-        Written::Done(bytes) => counts(0, bytes),
-        Written::Refused(number) => counts(number, 0),
-        Written::Short(bytes) => counts(9, bytes),
     }
 }
 

@@ -58,6 +58,6 @@ fn main() {
     let mut bytes = [0u8; 16_384];
     io::read_full(STDIN_FILENO, &mut bytes);
     let mut tape = [0u32; 4_096];
-    words::get_words(&bytes, 0, false, false, &mut tape);
+    words::get_words(&bytes, 0, false, &mut tape);
     tell_all(&tape);
 }

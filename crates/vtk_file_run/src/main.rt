@@ -1,7 +1,7 @@
 // Writes the viewer's file of a small mesh, reads it back, and reads what becomes of it when it is cut or changed. Prints how each is taken.
+use file_steps::Loaded;
 use libc::STDOUT_FILENO;
-use mesh_file::Loaded;
-use mesh_file::Written;
+use refusals::Counted;
 
 fn print_text(text: &[u8]) {
     io::write_all(STDOUT_FILENO, text);
@@ -16,9 +16,9 @@ fn print_number(n: u64) {
 fn write(points: &[u32], cells: &[u32], file: &mut [u8]) -> u64 {
     let mut work = [7u32; 10];
     match vtk_writer::write_vtk(points, cells, file, &mut work) {
-        Written::Done(bytes) => bytes,
-        Written::Refused(_) => 0,
-        Written::Short(_) => 0,
+        Counted::Done(bytes) => bytes,
+        Counted::Refused(_) => 0,
+        Counted::Short(_) => 0,
     }
 }
 

@@ -8,13 +8,15 @@ use borrow.Author.Tests.{lt-ltb, le-ltb, eq-eqb, ne-eqb}
 use lib.ListN.{length, getD, take, drop, length-append, take-append-drop}
 use lib.Seq.{take-suc, take-length}
 use Rattle.lists.proofs.Cases.{ltOr, eqOr}
-use Rattle.decimal.specs.Text.{textAt, onPlace}
+use Rattle.decimal.specs.Text.{textOf, textAt, onPlace}
 use Rattle.decimal.specs.Digits.{onCount}
 use Rattle.decimal.specs.declared.Place.{Place}
 use Rattle.decimal.specs.declared.Place.the-variants as place
 use Rattle.decimal.specs.declared.Counted.the-variants as counted
 use Rattle.decimal.proofs.Longer.{Leads, leads, Halts, Stays, StaysCount, place-on, count-on, text-stays, next-stays, number-stays, count-stays}
-use Rattle.vtk_layout.specs.Layout.{feed, space, versionLine, datasetLines, floatLine, cellsWord, typesWord, dataWord, scalarLines, titleAt, blockAt, lineAt, sectionAt, countedAt, headOf, endAt, numbersOn, typesOn, cellsOn, pointsOn, locatedOf}
+use Rattle.vtk_layout.specs.Texts.{feed, space, versionLine, datasetLines, floatLine, cellsWord, typesWord, dataWord, scalarLines}
+use Rattle.vtk_layout.specs.Layout.{titleAt, blockAt, lineAt, sectionAt, countedAt, headOf, endAt, numbersOn, typesOn, cellsOn, pointsOn, locatedOf}
+use Rattle.vtk_layout.specs.declared.Layout.{Layout}
 use Rattle.vtk_layout.specs.declared.Located.{Located}
 use Rattle.vtk_layout.specs.declared.Located.the-variants as located
 
@@ -29,7 +31,7 @@ EndStays (place.At q) p = p ≡ place.Stopped 12
 EndStays (place.Stopped k) p = Ends place.Stopped k p
 
 unfoldable Later : Located → Located → Type 0
-Later (located.Found p n points cells types numbers) l = l ≡ located.Stopped 12
+Later (located.Found f) l = l ≡ located.Stopped 12
 Later (located.Stopped k) l = Ends located.Stopped k l
 
 later-cut : (l : Located) → Later (located.Stopped 11) l
@@ -89,7 +91,7 @@ module _ (b c : List ℕ) (g : Leads b c) (more : length b < length c) where
       (λ q e. place-on counted.Stopped (StaysCount (length b)) (λ a. inl refl) (inr (refl, refl)) _ _ _ _ (title-stays 255 q) (λ z f. counted-stays datasetLines z))
 
   end-stays : (at : ℕ) → EndStays (endAt b at) (endAt c at)
-  unfolding endAt feed textAt onPlace EndStays Ends Halts
+  unfolding endAt feed textAt onPlace EndStays Ends Halts textOf
   end-stays at = by-tests (ltOr at (length b)) (eqOr (getD b at 0) 10) (ltOr (suc at) (length b))
     where
       by-tests : (at < length b) ⊎ (length b ≤ at) → (getD b at 0 ≡ 10) ⊎ (getD b at 0 ≢ 10) → (suc at < length b) ⊎ (length b ≤ suc at) → EndStays (endAt b at) (endAt c at)
@@ -123,7 +125,7 @@ module _ (b c : List ℕ) (g : Leads b c) (more : length b < length c) where
       (λ q e. part-on _ _ _ _ (section-stays typesWord n feed (4 * n) (q + 20 * n)) (λ z f. numbers-later p n points q z))
 
   cells-cut : (p n points at : ℕ) → length b ≤ at → cellsOn b p n points at ≡ located.Stopped 11
-  unfolding cellsOn sectionAt onPlace space
+  unfolding cellsOn sectionAt onPlace space textOf
   cells-cut p n points at h = rw (text-cut 32 [] b at h)
 
   points-later : (p at : ℕ) → Later (pointsOn b p at) (pointsOn c p at)
@@ -133,7 +135,7 @@ module _ (b c : List ℕ) (g : Leads b c) (more : length b < length c) where
       (λ q e. count-on located.Stopped Later later-cut later-off (length b) _ _ _ _ (counted-stays cellsWord (q + 12 * p)) (λ n z h. cells-later p n q z) (λ n z h. cells-cut p n q z h))
 
   points-cut : (p at : ℕ) → length b ≤ at → pointsOn b p at ≡ located.Stopped 11
-  unfolding pointsOn lineAt onPlace floatLine
+  unfolding pointsOn lineAt onPlace floatLine textOf
   points-cut p at h = rw (text-cut 32 _ b at h)
 
   located-later : Later (locatedOf b) (locatedOf c)
@@ -158,9 +160,9 @@ module _ (b : List ℕ) (x : ℕ) (r : List ℕ) where
       go (inr (d, f)) = ends d f
 
   -- a file that is found, or has bytes behind its end: 12
-  pub found-more : (p n points cells types numbers : ℕ) → locatedOf b ≡ located.Found p n points cells types numbers → locatedOf (b ++ (x ∷ r)) ≡ located.Stopped 12
+  pub found-more : (l : Layout) → locatedOf b ≡ located.Found l → locatedOf (b ++ (x ∷ r)) ≡ located.Stopped 12
   unfolding Later
-  found-more p n points cells types numbers e = subst (λ (l : Located). Later l (locatedOf (b ++ (x ∷ r)))) e later
+  found-more l e = subst (λ (l : Located). Later l (locatedOf (b ++ (x ∷ r)))) e later
 
   pub ended-more : locatedOf b ≡ located.Stopped 12 → locatedOf (b ++ (x ∷ r)) ≡ located.Stopped 12
   ended-more e = by-number 12 e (λ d. absurd (omega arith)) (λ d f. f) (λ d f. absurd (omega arith))
@@ -184,7 +186,7 @@ never : {j k : ℕ} → (j ≡ k → ⊥) → _≡_ {A = Located} (located.Stopp
 never d e = d (cc)
 
 empty-cut : locatedOf [] ≡ located.Stopped 11
-unfolding locatedOf headOf versionLine textAt onPlace onCount
+unfolding locatedOf headOf versionLine textAt onPlace onCount textOf
 empty-cut = refl
 
 module _ (b : List ℕ) where
@@ -203,7 +205,7 @@ module _ (b : List ℕ) where
       no-end f = never (λ q. omega arith) (sym f ∙ ap locatedOf (sym next) ∙ e)
 
       by-part : (locatedOf (take k b) ≡ located.Stopped 14 → Departs b) → (l : Located) → locatedOf (take k b) ≡ l → Departs b
-      by-part go (located.Found p n points cells types numbers) d = absurd (no-end (found-more (take k b) (getD b k 0) [] p n points cells types numbers d))
+      by-part go (located.Found l) d = absurd (no-end (found-more (take k b) (getD b k 0) [] l d))
       by-part go (located.Stopped j) d =
           by-number (take k b) (getD b k 0) [] j d (λ q. record { at = k; inside = h; before = d ∙ ap located.Stopped q; behind = all }) (λ q f. absurd (no-end f)) (λ q f. go (d ∙ ap located.Stopped q))
 
@@ -220,15 +222,15 @@ module _ (b : List ℕ) (x : ℕ) (r : List ℕ) where
   by-whole {l} e no-end no-departure = by-part (locatedOf b) refl
     where
       by-part : (k : Located) → locatedOf b ≡ k → locatedOf b ≡ located.Stopped 11
-      by-part (located.Found p n points cells types numbers) d = absurd (no-end (sym e ∙ found-more b x r p n points cells types numbers d))
+      by-part (located.Found l) d = absurd (no-end (sym e ∙ found-more b x r l d))
       by-part (located.Stopped j) d =
           by-number b x r j d (λ q. d ∙ ap located.Stopped q) (λ q f. absurd (no-end (sym e ∙ f))) (λ q f. absurd (no-departure (sym e ∙ f)))
 
   pub cut-front : locatedOf (b ++ (x ∷ r)) ≡ located.Stopped 11 → locatedOf b ≡ located.Stopped 11
   cut-front e = by-whole e (never (λ q. omega arith)) (never (λ q. omega arith))
 
-  found-never : {p n points cells types numbers k : ℕ} → located.Found p n points cells types numbers ≡ located.Stopped k → ⊥
+  found-never : {l : Layout} {k : ℕ} → located.Found l ≡ located.Stopped k → ⊥
   found-never e = let z : _≡_ {A = ℕ} 0 1 = cc in omega arith
 
-  pub found-front : (p n points cells types numbers : ℕ) → locatedOf (b ++ (x ∷ r)) ≡ located.Found p n points cells types numbers → locatedOf b ≡ located.Stopped 11
-  found-front p n points cells types numbers e = by-whole e found-never found-never
+  pub found-front : (l : Layout) → locatedOf (b ++ (x ∷ r)) ≡ located.Found l → locatedOf b ≡ located.Stopped 11
+  found-front l e = by-whole e found-never found-never

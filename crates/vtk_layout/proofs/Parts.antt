@@ -17,7 +17,8 @@ use Rattle.decimal.proofs.Texts.{either-way, never-at}
 use Rattle.decimal.proofs.Counts.{count-found, never-read}
 use Rattle.lists.proofs.Cases.{ltOr}
 use Rattle.decimal.specs.declared.Place.the-variants.{At, Stopped}
-use Rattle.vtk_layout.specs.Layout.{feed, versionLine, datasetLines, titleAt, blockAt, lineAt, sectionAt, countedAt, headOf, noFeed}
+use Rattle.vtk_layout.specs.Texts.{feed, versionLine, datasetLines}
+use Rattle.vtk_layout.specs.Layout.{titleAt, blockAt, lineAt, sectionAt, countedAt, headOf, noFeed}
 
 -- ---- the loop that passes over a title
 

@@ -11,14 +11,17 @@ use lib.Dec.{ltb}
 use lib.ListN.{length, getD, take, drop, take-append-drop, drop-of-length-le}
 use lib.Seq.{drop-cons, drop-drop}
 use Rattle.lists.proofs.Cases.{ltOr, eqOr}
-use Rattle.decimal.specs.Text.{textAt}
+use Rattle.decimal.specs.Text.{textOf, textAt}
 use Rattle.decimal.specs.Digits.{digits, numberAt, countAt}
 use Rattle.decimal.specs.declared.Place.the-variants.{At, Stopped}
 use Rattle.decimal.specs.declared.Counted.the-variants as counted
 use Rattle.decimal.proofs.Texts.{text-found, number-found, either-way, never-at}
 use Rattle.decimal.proofs.Counts.{count-found, never-read, count-either-way}
-use Rattle.vtk_layout.proofs.Parts.{title-feed, title-ends, title-next, no-feed, block-in, line-in, section-in, counted-small, head-small}
-use Rattle.vtk_layout.specs.Layout.{feed, space, versionLine, datasetLines, floatLine, cellsWord, typesWord, dataWord, scalarLines, noFeed, isTitle, written, titleAt, blockAt, lineAt, sectionAt, countedAt, headOf, endAt, numbersOn, typesOn, cellsOn, pointsOn, locatedOf, Laid}
+use Rattle.vtk_layout.proofs.Parts.{title-feed, title-ends, title-next, no-feed, block-in, line-in, section-in}
+use Rattle.vtk_layout.specs.Texts.{feed, space, versionLine, datasetLines, floatLine, cellsWord, typesWord, dataWord, scalarLines}
+use Rattle.vtk_layout.specs.Layout.{noFeed, isTitle, written, titleAt, blockAt, lineAt, sectionAt, countedAt, headOf, endAt, numbersOn, typesOn, cellsOn, pointsOn, locatedOf}
+use Rattle.vtk_layout.specs.Parts.{Laid}
+use Rattle.vtk_layout.specs.declared.Layout.{Layout}
 use Rattle.vtk_layout.specs.declared.Located.{Located}
 use Rattle.vtk_layout.specs.declared.Located.the-variants as located
 
@@ -31,7 +34,7 @@ record TitleHere (k : ℕ) (b : List ℕ) (at next : ℕ) : Type 0 where
   bytes : drop at b ≡ title ++ (feed ++ drop next b)
 
 title-found : (k : ℕ) (b : List ℕ) (at next : ℕ) → titleAt k b at ≡ At next → TitleHere k b at next
-unfolding titleAt noFeed feed
+unfolding titleAt noFeed feed textOf
 title-found zero b at next e = record { title = []; short = omega arith; plain = refl; bytes = text-found feed b at next e .bytes }
 title-found (suc k) b at next e = by-tests (title-found k b (suc at) next) (ltOr at (length b)) (eqOr (getD b at 0) 10)
   where
@@ -102,7 +105,7 @@ head-found b v next =
     }
 
 end-found : (b : List ℕ) (at q : ℕ) → endAt b at ≡ At q → drop at b ≡ feed
-unfolding endAt feed
+unfolding endAt feed textOf
 end-found b at q =
     either-way (textAt feed b at) Stopped _ (λ r. r ≡ At q → drop at b ≡ feed) (λ k d f. absurd (never-at k q f))
     (λ z d f. last z d f (ltOr z (length b)))
@@ -117,15 +120,13 @@ module _ (b : List ℕ) where
   laid : (p q points n z cells types numbers y : ℕ) → headOf b ≡ counted.Read p q → lineAt floatLine (12 * p) b q ≡ At points
       → countedAt cellsWord b (points + 12 * p) ≡ counted.Read n z → sectionAt space (5 * n) feed (20 * n) b z ≡ At cells
       → sectionAt typesWord n feed (4 * n) b (cells + 20 * n) ≡ At types → sectionAt dataWord n scalarLines (4 * n) b (types + 4 * n) ≡ At numbers
-      → endAt b (numbers + 4 * n) ≡ At y → Laid b p n points cells types numbers
+      → endAt b (numbers + 4 * n) ≡ At y → Laid b (record { p = p; n = n; points = points; cells = cells; types = types; numbers = numbers })
   unfolding written
   laid p q points n z cells types numbers y h l c s t d e =
       let hh = head-found b p q h in
       record {
         title = hh .title;
         plain = hh .plain;
-        p-small = head-small b p q h;
-        n-small = counted-small cellsWord b (points + 12 * p) n z c;
         points-in = line-in floatLine (12 * p) b q points l;
         cells-in = section-in space (5 * n) feed (20 * n) b z cells s;
         types-in = section-in typesWord n feed (4 * n) b (cells + 20 * n) types t;
@@ -147,7 +148,7 @@ module _ (b : List ℕ) where
       }
 
   Sound : Located → Type 0
-  Sound (located.Found p n points cells types numbers) = Laid b p n points cells types numbers
+  Sound (located.Found l) = Laid b l
   Sound (located.Stopped k) = _≡_ {A = ℕ} 0 0
 
   sound : Sound (locatedOf b)
@@ -162,6 +163,6 @@ module _ (b : List ℕ) where
       (λ numbers d. either-way (endAt b (numbers + 4 * n)) located.Stopped _ Sound (λ k d. refl)
       (λ y e. laid p q points n z cells types numbers y h l c s t d e)))))))
 
-  pub located-laid : (p n points cells types numbers : ℕ) → locatedOf b ≡ located.Found p n points cells types numbers → Laid b p n points cells types numbers
+  pub located-laid : (l : Layout) → locatedOf b ≡ located.Found l → Laid b l
   unfolding Sound
-  located-laid p n points cells types numbers e = subst Sound e sound
+  located-laid l e = subst Sound e sound

@@ -11,7 +11,7 @@ use lib.Dec.{eqb, leb}
 use lib.ListN.{length, getD, take, drop, length-append, length-drop}
 use lib.Seq.{take-at}
 use Rattle.lists.proofs.Bools.{and-left, and-right}
-use Rattle.decimal.specs.Text.{textAt}
+use Rattle.decimal.specs.Text.{textOf, textAt}
 use Rattle.decimal.specs.Digits.{digits, isDigit}
 use Rattle.decimal.specs.declared.Place.{Place}
 use Rattle.decimal.specs.declared.Place.the-variants.{At, Stopped}
@@ -20,7 +20,8 @@ use Rattle.decimal.specs.declared.Counted.the-variants as counted
 use Rattle.decimal.proofs.Texts.{text-there, number-low, drop-on, in-file, went}
 use Rattle.decimal.proofs.Counts.{count-there, count-went}
 use Rattle.vtk_layout.proofs.Parts.{title-feed, title-next, block-there}
-use Rattle.vtk_layout.specs.Layout.{feed, space, versionLine, datasetLines, floatLine, cellsWord, typesWord, dataWord, scalarLines, noFeed, isTitle, written, titleAt, lineAt, sectionAt, countedAt, headOf, endAt, numbersOn, typesOn, cellsOn, pointsOn, locatedOf}
+use Rattle.vtk_layout.specs.Texts.{feed, space, versionLine, datasetLines, floatLine, cellsWord, typesWord, dataWord, scalarLines}
+use Rattle.vtk_layout.specs.Layout.{noFeed, isTitle, written, titleAt, lineAt, sectionAt, countedAt, headOf, endAt, numbersOn, typesOn, cellsOn, pointsOn, locatedOf}
 use Rattle.vtk_layout.specs.declared.Located.the-variants as located
 
 -- a part that is there, and what is left behind it
@@ -33,7 +34,7 @@ text-passed : (t rest b : List ℕ) (at : ℕ) → drop at b ≡ t ++ rest → P
 text-passed t rest b at e = record { place = at + length t; here = text-there t rest b at e; left = drop-on t rest b at e }
 
 title-passed : (t rest b : List ℕ) (k at : ℕ) → length t ≤ k → noFeed t ≡ true → drop at b ≡ t ++ (feed ++ rest) → Passed (titleAt k b at) b rest
-unfolding titleAt noFeed feed
+unfolding titleAt noFeed feed textOf
 title-passed [] rest b zero at h n e = text-passed feed rest b at e
 title-passed [] rest b (suc k) at h n e =
     let i = in-file b 10 rest at e in
@@ -91,7 +92,7 @@ pub record Standing (b : List ℕ) (p n : ℕ) (P C T N : List ℕ) : Type 0 whe
   pub cells : ℕ
   pub types : ℕ
   pub numbers : ℕ
-  pub found : locatedOf b ≡ located.Found p n points cells types numbers
+  pub found : locatedOf b ≡ located.Found (record { p = p; n = n; points = points; cells = cells; types = types; numbers = numbers })
   pub points-are : take (12 * p) (drop points b) ≡ P
   pub cells-are : take (20 * n) (drop cells b) ≡ C
   pub types-are : take (4 * n) (drop types b) ≡ T
@@ -109,31 +110,31 @@ module _ (title : List ℕ) (p n : ℕ) (P C T N b : List ℕ) where
 
   -- what follows a block starts with a line feed
   more-last : 0 < length last
-  unfolding last dataWord
+  unfolding last dataWord textOf
   more-last = omega arith
 
   more-third : 0 < length third
-  unfolding third typesWord
+  unfolding third typesWord textOf
   more-third = omega arith
 
   more-second : 0 < length second
-  unfolding second cellsWord
+  unfolding second cellsWord textOf
   more-second = omega arith
 
   more-feed : 0 < length feed
-  unfolding feed
+  unfolding feed textOf
   more-feed = omega arith
 
   no-digit : (s : List ℕ) → isDigit (getD (floatLine ++ s) 0 0) ≡ false
-  unfolding floatLine
+  unfolding floatLine textOf
   no-digit s = refl
 
   no-digit-2 : (s : List ℕ) → isDigit (getD (space ++ s) 0 0) ≡ false
-  unfolding space
+  unfolding space textOf
   no-digit-2 s = refl
 
   end-here : (at : ℕ) → drop at b ≡ feed → Passed (endAt b at) b []
-  unfolding endAt feed
+  unfolding endAt feed textOf
   end-here at e =
       let r = text-passed feed [] b at e in
       let h : length b ≤ r .place = omega (arith, simp length-drop at (ap length (r .left))) in
@@ -146,15 +147,15 @@ module _ (title : List ℕ) (p n : ℕ) (P C T N b : List ℕ) where
           module _ (h6 : Passed (sectionAt space (5 * n) feed (20 * n) b (h5 .place)) b (C ++ third)) where
             module _ (h7 : Passed (sectionAt typesWord n feed (4 * n) b (h6 .place + 20 * n)) b (T ++ last)) where
               module _ (h8 : Passed (sectionAt dataWord n scalarLines (4 * n) b (h7 .place + 4 * n)) b (N ++ feed)) where
-                found-8 : (y : ℕ) → endAt b (h8 .place + 4 * n) ≡ At y → numbersOn b p n (h4 .place) (h6 .place) (h7 .place) ≡ located.Found p n (h4 .place) (h6 .place) (h7 .place) (h8 .place)
+                found-8 : (y : ℕ) → endAt b (h8 .place + 4 * n) ≡ At y → numbersOn b p n (h4 .place) (h6 .place) (h7 .place) ≡ located.Found (record { p = p; n = n; points = h4 .place; cells = h6 .place; types = h7 .place; numbers = h8 .place })
                 unfolding numbersOn
                 found-8 y e = went _ located.Stopped _ (h8 .place) (h8 .here) ∙ went _ located.Stopped _ y e
 
-                found-7 : (y : ℕ) → endAt b (h8 .place + 4 * n) ≡ At y → cellsOn b p n (h4 .place) (h5 .place) ≡ located.Found p n (h4 .place) (h6 .place) (h7 .place) (h8 .place)
+                found-7 : (y : ℕ) → endAt b (h8 .place + 4 * n) ≡ At y → cellsOn b p n (h4 .place) (h5 .place) ≡ located.Found (record { p = p; n = n; points = h4 .place; cells = h6 .place; types = h7 .place; numbers = h8 .place })
                 unfolding cellsOn typesOn
                 found-7 y e = went _ located.Stopped _ (h6 .place) (h6 .here) ∙ went _ located.Stopped _ (h7 .place) (h7 .here) ∙ found-8 y e
 
-                found-all : (y : ℕ) → endAt b (h8 .place + 4 * n) ≡ At y → locatedOf b ≡ located.Found p n (h4 .place) (h6 .place) (h7 .place) (h8 .place)
+                found-all : (y : ℕ) → endAt b (h8 .place + 4 * n) ≡ At y → locatedOf b ≡ located.Found (record { p = p; n = n; points = h4 .place; cells = h6 .place; types = h7 .place; numbers = h8 .place })
                 unfolding locatedOf pointsOn
                 found-all y e =
                     count-went _ located.Stopped _ p (h3 .place) (h3 .here) ∙ went _ located.Stopped _ (h4 .place) (h4 .here)

@@ -1,60 +1,19 @@
--- The viewer's file: legacy VTK, version 3.0, BINARY, UNSTRUCTURED_GRID. Its texts and their order, set out once for writer and reader.
+-- The viewer's file: legacy VTK, version 3.0, BINARY, UNSTRUCTURED_GRID. The order of its parts, as it is written and as it is read.
 -- b is the list of a file's bytes, p and n are its numbers of points and of cells.
-use mathlib.Core.Path.{_≡_}
 use mathlib.Core.Bool.{Bool, true, cond, not, _&&_}
 use mathlib.Core.List.{List, [], _∷_, _++_}
-use Prim.Native.Nat.{ℕ, zero, suc, _+_, _*_, _≤_, _<_}
+use Prim.Native.Nat.{ℕ, zero, suc, _+_, _*_}
 use lib.Dec.{eqb, ltb, leb}
-use lib.ListN.{length, getD, take, drop}
+use lib.ListN.{length, getD}
 use Rattle.decimal.specs.Text.{textAt, onPlace}
 use Rattle.decimal.specs.Digits.{digits, numberAt, countAt, onCount}
 use Rattle.decimal.specs.declared.Place.{Place}
 use Rattle.decimal.specs.declared.Place.the-variants as place
 use Rattle.decimal.specs.declared.Counted.{Counted}
 use Rattle.decimal.specs.declared.Counted.the-variants as counted
+use Rattle.vtk_layout.specs.Texts.{feed, versionLine, datasetLines, floatLine, cellsWord, space, typesWord, dataWord, scalarLines}
 use Rattle.vtk_layout.specs.declared.Located.{Located}
 use Rattle.vtk_layout.specs.declared.Located.the-variants as located
-
--- ---- the texts
-
--- a line feed
-unfoldable pub feed : List ℕ
-feed = 10 ∷ []
-
--- "# vtk DataFile Version 3.0" and a line feed; the title line follows
-unfoldable pub versionLine : List ℕ
-versionLine = 35 ∷ 32 ∷ 118 ∷ 116 ∷ 107 ∷ 32 ∷ 68 ∷ 97 ∷ 116 ∷ 97 ∷ 70 ∷ 105 ∷ 108 ∷ 101 ∷ 32 ∷ 86 ∷ 101 ∷ 114 ∷ 115 ∷ 105 ∷ 111 ∷ 110 ∷ 32 ∷ 51 ∷ 46 ∷ 48 ∷ 10 ∷ []
-
--- "BINARY", "DATASET UNSTRUCTURED_GRID", "POINTS "; the number of points follows
-unfoldable pub datasetLines : List ℕ
-datasetLines = 66 ∷ 73 ∷ 78 ∷ 65 ∷ 82 ∷ 89 ∷ 10 ∷ 68 ∷ 65 ∷ 84 ∷ 65 ∷ 83 ∷ 69 ∷ 84 ∷ 32 ∷ 85 ∷ 78 ∷ 83 ∷ 84 ∷ 82 ∷ 85 ∷ 67 ∷ 84 ∷ 85 ∷ 82 ∷ 69 ∷ 68 ∷ 95 ∷ 71 ∷ 82 ∷ 73 ∷ 68 ∷ 10 ∷ 80 ∷ 79 ∷ 73 ∷ 78 ∷ 84 ∷ 83 ∷ 32 ∷ []
-
--- " float" and a line feed; the points follow, 12 bytes each
-unfoldable pub floatLine : List ℕ
-floatLine = 32 ∷ 102 ∷ 108 ∷ 111 ∷ 97 ∷ 116 ∷ 10 ∷ []
-
--- a line feed and "CELLS "; the number of cells follows, and then a space and five times that
-unfoldable pub cellsWord : List ℕ
-cellsWord = 10 ∷ 67 ∷ 69 ∷ 76 ∷ 76 ∷ 83 ∷ 32 ∷ []
-
-unfoldable pub space : List ℕ
-space = 32 ∷ []
-
--- a line feed and "CELL_TYPES "; the number of cells follows, and then their types, 4 bytes each
-unfoldable pub typesWord : List ℕ
-typesWord = 10 ∷ 67 ∷ 69 ∷ 76 ∷ 76 ∷ 95 ∷ 84 ∷ 89 ∷ 80 ∷ 69 ∷ 83 ∷ 32 ∷ []
-
--- a line feed and "CELL_DATA "; the number of cells follows, and then two lines and the component numbers, 4 bytes each
-unfoldable pub dataWord : List ℕ
-dataWord = 10 ∷ 67 ∷ 69 ∷ 76 ∷ 76 ∷ 95 ∷ 68 ∷ 65 ∷ 84 ∷ 65 ∷ 32 ∷ []
-
--- a line feed, "SCALARS component int 1", "LOOKUP_TABLE default" and a line feed
-unfoldable pub scalarLines : List ℕ
-scalarLines = 10 ∷ 83 ∷ 67 ∷ 65 ∷ 76 ∷ 65 ∷ 82 ∷ 83 ∷ 32 ∷ 99 ∷ 111 ∷ 109 ∷ 112 ∷ 111 ∷ 110 ∷ 101 ∷ 110 ∷ 116 ∷ 32 ∷ 105 ∷ 110 ∷ 116 ∷ 32 ∷ 49 ∷ 10 ∷ 76 ∷ 79 ∷ 79 ∷ 75 ∷ 85 ∷ 80 ∷ 95 ∷ 84 ∷ 65 ∷ 66 ∷ 76 ∷ 69 ∷ 32 ∷ 100 ∷ 101 ∷ 102 ∷ 97 ∷ 117 ∷ 108 ∷ 116 ∷ 10 ∷ []
-
--- "cover mesh", the title that the writer gives
-unfoldable pub ourTitle : List ℕ
-ourTitle = 99 ∷ 111 ∷ 118 ∷ 101 ∷ 114 ∷ 32 ∷ 109 ∷ 101 ∷ 115 ∷ 104 ∷ []
 
 -- ---- as it is written
 
@@ -110,7 +69,7 @@ endAt b at = onPlace (textAt feed b at) place.Stopped (λ q. cond (ltb q (length
 unfoldable pub numbersOn : List ℕ → ℕ → ℕ → ℕ → ℕ → ℕ → Located
 numbersOn b p n points cells types =
     onPlace (sectionAt dataWord n scalarLines (4 * n) b (types + 4 * n)) located.Stopped
-    (λ numbers. onPlace (endAt b (numbers + 4 * n)) located.Stopped (λ q. located.Found p n points cells types numbers))
+    (λ numbers. onPlace (endAt b (numbers + 4 * n)) located.Stopped (λ q. located.Found (record { p = p; n = n; points = points; cells = cells; types = types; numbers = numbers })))
 
 unfoldable pub typesOn : List ℕ → ℕ → ℕ → ℕ → ℕ → Located
 typesOn b p n points cells = onPlace (sectionAt typesWord n feed (4 * n) b (cells + 20 * n)) located.Stopped (numbersOn b p n points cells)
@@ -126,16 +85,3 @@ pointsOn b p at =
 -- the whole file
 unfoldable pub locatedOf : List ℕ → Located
 locatedOf b = onCount (headOf b) located.Stopped (pointsOn b)
-
--- ---- what a layout that is found says of the file
-
-pub record Laid (b : List ℕ) (p n points cells types numbers : ℕ) : Type 0 where
-  pub title : List ℕ
-  pub plain : isTitle title ≡ true
-  pub p-small : p < 10000000000
-  pub n-small : n < 10000000000
-  pub points-in : points + 12 * p ≤ length b
-  pub cells-in : cells + 20 * n ≤ length b
-  pub types-in : types + 4 * n ≤ length b
-  pub numbers-in : numbers + 4 * n ≤ length b
-  pub bytes : b ≡ written title p n (take (12 * p) (drop points b)) (take (20 * n) (drop cells b)) (take (4 * n) (drop types b)) (take (4 * n) (drop numbers b))

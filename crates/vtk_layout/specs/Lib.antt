@@ -1,3 +1,5 @@
 -- The definitions that the contracts of vtk_layout cite.
+pub mod Texts
 pub mod Layout
 pub mod File
+pub mod Parts

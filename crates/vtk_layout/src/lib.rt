@@ -9,9 +9,40 @@ ghost use Rattle.lists.specs.Runs.{Stored};
 ghost use Rattle.decimal.specs.Digits.{digits};
 ghost use Rattle.vtk_layout.specs.Layout.{titleAt, blockAt, countedAt, headOf, sectionAt, lineAt, endAt, numbersOn, typesOn, cellsOn, pointsOn, locatedOf};
 
-// The points and cells of a file and the places of its blocks: points, cells, cell types, component numbers; or the number of the refusal.
+// The texts of the header, in their order; the title line of a file is any text, and TITLE_LINE is ours.
+pub const VERSION_LINE: [u8; 27] = *b"# vtk DataFile Version 3.0\n";
+
+pub const TITLE_LINE: [u8; 11] = *b"cover mesh\n";
+
+pub const DATASET_LINES: [u8; 40] = *b"BINARY\nDATASET UNSTRUCTURED_GRID\nPOINTS ";
+
+pub const FLOAT_LINE: [u8; 7] = *b" float\n";
+
+pub const CELLS_WORD: [u8; 7] = *b"\nCELLS ";
+
+pub const SPACE: [u8; 1] = *b" ";
+
+pub const TYPES_WORD: [u8; 12] = *b"\nCELL_TYPES ";
+
+pub const DATA_WORD: [u8; 11] = *b"\nCELL_DATA ";
+
+pub const SCALAR_LINES: [u8; 46] = *b"\nSCALARS component int 1\nLOOKUP_TABLE default\n";
+
+pub const FEED: [u8; 1] = *b"\n";
+
+// A file's p points and n cells, and the places of its blocks: points, cells, cell types, component numbers.
+pub struct Layout {
+    pub p: usize,
+    pub n: usize,
+    pub points: usize,
+    pub cells: usize,
+    pub types: usize,
+    pub numbers: usize,
+}
+
+// The layout of a file; or the number of the refusal.
 pub enum Located {
-    Found(usize, usize, usize, usize, usize, usize),
+    Found(Layout),
     Stopped(u32),
 }
 
@@ -31,7 +62,7 @@ fn title(file: &[u8], at: usize) -> Place
         q += 1;
         left -= 1;
     }
-    decimal::text(file, q, b"\n")
+    decimal::text(file, q, &FEED)
 }
 
 // A block of so many bytes that is there: where it starts.
@@ -61,13 +92,9 @@ fn counted(file: &[u8], at: usize, before: &[u8]) -> Counted
 fn head(file: &[u8]) -> Counted
     ensures { λ r. ⌜ r ≡ headOf (now (file .entry)) ⌝ }
 {
-    match decimal::text(file, 0, b"# vtk DataFile Version 3.0\n") {
+    match decimal::text(file, 0, &VERSION_LINE) {
         Place::At(first) => match title(file, first) {
-            Place::At(second) => counted(
-                file,
-                second,
-                b"BINARY\nDATASET UNSTRUCTURED_GRID\nPOINTS ",
-            ),
+            Place::At(second) => counted(file, second, &DATASET_LINES),
             Place::Stopped(number) => Counted::Stopped(number),
         },
         Place::Stopped(number) => Counted::Stopped(number),
@@ -101,7 +128,7 @@ fn section(file: &[u8], at: usize, before: &[u8], n: usize, after: &[u8], size: 
 fn end(file: &[u8], at: usize) -> Place
     ensures { λ r. ⌜ r ≡ endAt (now (file .entry)) at ⌝ }
 {
-    match decimal::text(file, at, b"\n") {
+    match decimal::text(file, at, &FEED) {
         Place::At(next) => {
             if next < file.len() {
                 return Place::Stopped(12);
@@ -117,17 +144,17 @@ fn numbers_on(file: &[u8], p: usize, n: usize, points: usize, cells: usize, type
     requires { ⌜ (n < 10000000000) × (types + 4 * n ≤ length (now file)) ⌝ }
     ensures { λ r. ⌜ r ≡ numbersOn (now (file .entry)) p n points cells types ⌝ }
 {
-    let found = section(
-        file,
-        types + 4 * n,
-        b"\nCELL_DATA ",
-        n,
-        b"\nSCALARS component int 1\nLOOKUP_TABLE default\n",
-        4 * n,
-    );
+    let found = section(file, types + 4 * n, &DATA_WORD, n, &SCALAR_LINES, 4 * n);
     match found {
         Place::At(numbers) => match end(file, numbers + 4 * n) {
-            Place::At(_) => Located::Found(p, n, points, cells, types, numbers),
+            Place::At(_) => Located::Found(Layout {
+                p,
+                n,
+                points,
+                cells,
+                types,
+                numbers,
+            }),
             Place::Stopped(number) => Located::Stopped(number),
         },
         Place::Stopped(number) => Located::Stopped(number),
@@ -139,7 +166,7 @@ fn types_on(file: &[u8], p: usize, n: usize, points: usize, cells: usize) -> Loc
     requires { ⌜ (n < 10000000000) × (cells + 20 * n ≤ length (now file)) ⌝ }
     ensures { λ r. ⌜ r ≡ typesOn (now (file .entry)) p n points cells ⌝ }
 {
-    match section(file, cells + 20 * n, b"\nCELL_TYPES ", n, b"\n", 4 * n) {
+    match section(file, cells + 20 * n, &TYPES_WORD, n, &FEED, 4 * n) {
         Place::At(types) => numbers_on(file, p, n, points, cells, types),
         Place::Stopped(number) => Located::Stopped(number),
     }
@@ -150,7 +177,7 @@ fn cells_on(file: &[u8], p: usize, n: usize, points: usize, at: usize) -> Locate
     requires { ⌜ n < 10000000000 ⌝ }
     ensures { λ r. ⌜ r ≡ cellsOn (now (file .entry)) p n points at ⌝ }
 {
-    match section(file, at, b" ", 5 * n, b"\n", 20 * n) {
+    match section(file, at, &SPACE, 5 * n, &FEED, 20 * n) {
         Place::At(cells) => types_on(file, p, n, points, cells),
         Place::Stopped(number) => Located::Stopped(number),
     }
@@ -161,8 +188,8 @@ fn points_on(file: &[u8], p: usize, at: usize) -> Located
     requires { ⌜ p < 10000000000 ⌝ }
     ensures { λ r. ⌜ r ≡ pointsOn (now (file .entry)) p at ⌝ }
 {
-    match line(file, at, b" float\n", 12 * p) {
-        Place::At(points) => match counted(file, points + 12 * p, b"\nCELLS ") {
+    match line(file, at, &FLOAT_LINE, 12 * p) {
+        Place::At(points) => match counted(file, points + 12 * p, &CELLS_WORD) {
             Counted::Read(n, next) => cells_on(file, p, n, points, next),
             Counted::Stopped(number) => Located::Stopped(number),
         },

@@ -1,4 +1,5 @@
--- Laws that the proofs of vtk_reader share.
-pub mod Reading
-pub mod Meaning
-pub mod RoundTrip
+-- Laws that the proofs of vtk_reader share, and what its contract means.
+pub mod Judging
+pub mod Files
+pub mod Cells
+pub mod Theorems

@@ -1,2 +1,3 @@
 -- The definitions that the contracts of vtk_reader cite.
-pub mod Read
+pub mod Step
+pub mod Parts

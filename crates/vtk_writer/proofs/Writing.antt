@@ -8,20 +8,24 @@ use native.Mathlib.Omega.{arith}
 use borrow.Author.Tests.{eq-eqb, ne-eqb}
 use lib.ListN.{length, getD, drop, replicate, length-append, length-replicate}
 use lib.Seq.{sets, length-sets, drop-cons}
-use Rattle.refusals.specs.Rows.{first}
 use Rattle.mesh.specs.Mesh.{pointsOf, cellsOf}
-use Rattle.lists.specs.Runs.{Stored}
+use Rattle.lists.specs.Runs.{Stored, Splits, Room}
+use Rattle.lists.proofs.Running.{storing-start, storing-on, storing-room, room-first, stored-both}
 use Rattle.lists.proofs.Listing.{list-at, length-list}
 use Rattle.lists.proofs.Parts.{sets-append, sets-whole}
 use Rattle.words.specs.Words.{bytes4, bytesOf}
-use Rattle.words.proofs.Words.{length-bytes, bytes-append, Writing, writing-start, writing-on, writing-done}
+use Rattle.words.proofs.Words.{length-bytes, bytes-append}
+use Rattle.words.proofs.Turns.{Writing, writing-start, writing-on, writing-done}
 use Rattle.components.specs.Numbers.{componentNumbers}
 use Rattle.components.proofs.Patterns.{length-components}
+use Rattle.decimal.specs.Text.{textOf}
 use Rattle.decimal.specs.Digits.{digits}
-use Rattle.vtk_layout.specs.Layout.{versionLine, ourTitle, feed, datasetLines, floatLine, cellsWord, space, typesWord, dataWord, scalarLines, written}
+use Rattle.vtk_layout.specs.Texts.{versionLine, ourTitle, feed, datasetLines, floatLine, cellsWord, space, typesWord, dataWord, scalarLines}
+use Rattle.vtk_layout.specs.Layout.{written}
 use Rattle.vtk_layout.specs.File.{ledWord, led, typesOf, vtkFile}
-use Rattle.mesh_file.specs.Writer.{Storable, Placed}
-use Rattle.vtk_writer.specs.Write.{vtkBytes, ledCell}
+use Rattle.file_steps.specs.Parts.{Storable, Placed}
+use Rattle.vtk_writer.specs.Step.{vtkBytes}
+use Rattle.vtk_writer.specs.Parts.{ledCell, pointsPart, cellsPart, typesPart, numbersPart, Ended}
 
 -- ---- the cells led by fours
 
@@ -110,119 +114,182 @@ module _ (C : List ℕ) where
       let w4 = writing-on true src o at o3 3 w3 (omega arith) refl e4 in
       writing-done true src o at o5 5 (writing-on true src o at o4 4 w4 (omega arith) refl e5) (omega arith)
 
--- ---- the file
-
--- the texts before the first block
-abbrev pub headLines : List ℕ
-headLines = versionLine ++ (ourTitle ++ (feed ++ datasetLines))
-
--- one part behind another
-stored-then : {A B o o1 o2 : List ℕ} {at a r : ℕ} → Stored o at A a o1 → Stored o1 a B r o2 → Stored o at (A ++ B) r o2
-stored-then {A} {B} {o} {o1} {o2} {at} {a} {r} p q = record {
-  count = omega (arith, p .count, q .count, length-append A B);
-  kept = q .kept ∙ ap₂ (λ (t : List ℕ) (k : ℕ). sets t k B) (p .kept) (p .count) ∙ sym (sets-append A B o at);
-}
+-- ---- the parts
 
 -- a block that was stored
-block : {o o1 : List ℕ} (at r : ℕ) (W : List ℕ) → o1 ≡ sets o at (bytesOf true W) → r ≡ at + 4 * length W → Stored o at (bytesOf true W) r o1
-block at r W e f = record { count = omega (arith, length-bytes true W); kept = e }
+pub block-stored : (W : List ℕ) {o o1 : List ℕ} {at r : ℕ} → o1 ≡ sets o at (bytesOf true W) → r ≡ at + 4 * length W → Stored o at (bytesOf true W) r o1
+block-stored W e f = record { count = omega (arith, length-bytes true W); kept = e }
 
-pub length-lines : (A : List ℕ) (v : ℕ) (B : List ℕ) → length (A ++ (digits v ++ B)) ≡ length A + length (digits v) + length B
-length-lines A v B = length-append A (digits v ++ B) ∙ omega (arith, length-append (digits v) B)
+-- a piece and what follows it
+first-of : (A B : List ℕ) → Splits (A ++ B) A B
+first-of A B = record { whole = refl }
 
--- header lines that fit, and where they end
-pub lines-fit : (A : List ℕ) (v : ℕ) (B : List ℕ) (at size : ℕ) → at + length A + length (digits v) + length B ≤ size
-    → at + length (A ++ (digits v ++ B)) ≤ size
-lines-fit A v B at size h = omega (arith, length-lines A v B)
+-- room for a piece, and for what follows it
+module _ (A B : List ℕ) {o : List ℕ} {at : ℕ} (r : Room o at (A ++ B)) where
+  pub room-one : at + length A ≤ length o
+  room-one = room-first (first-of A B) r .fits
 
-pub lines-end : (A : List ℕ) (v : ℕ) (B : List ℕ) {o o1 : List ℕ} {at r : ℕ} → Stored o at (A ++ (digits v ++ B)) r o1
-    → r ≡ at + length A + length (digits v) + length B
-lines-end A v B s = omega (arith, s .count, length-lines A v B)
+  pub room-then : {o1 : List ℕ} {a : ℕ} → Stored o at A a o1 → Room o1 a B
+  room-then s = storing-room (storing-on storing-start (first-of A B) s) r
 
--- how long the texts are
-module _ (p n : ℕ) where
-  pub head-long : length (headLines ++ (digits p ++ floatLine)) ≡ 85 + length (digits p)
-  unfolding versionLine ourTitle feed datasetLines floatLine
-  head-long = length-lines headLines p floatLine ∙ omega arith
+-- room for a block, in which the place after it does not wrap
+pub room-block : (W : List ℕ) {o : List ℕ} {at : ℕ} → Room o at (bytesOf true W) → at + 4 * length W ≤ length o
+room-block W r = omega (arith, r .fits, length-bytes true W)
 
-  pub cells-long : length (cellsWord ++ (digits n ++ space)) ≡ 8 + length (digits n)
-  unfolding cellsWord space
-  cells-long = length-lines cellsWord n space ∙ omega arith
+-- the pieces of each part, stored one behind the other: room for the next, and at last the part
 
-  pub fives-long : length ([] ++ (digits (5 * n) ++ feed)) ≡ 1 + length (digits (5 * n))
-  unfolding feed
-  fives-long = length-lines [] (5 * n) feed ∙ omega arith
+module _ (P : List ℕ) {o : List ℕ} (r : Room o 0 (pointsPart P)) where
+  abbrev pointLines : List ℕ
+  pointLines = datasetLines ++ (digits (pointsOf P) ++ floatLine)
 
-  pub types-long : length (typesWord ++ (digits n ++ feed)) ≡ 13 + length (digits n)
-  unfolding typesWord feed
-  types-long = length-lines typesWord n feed ∙ omega arith
+  pub points-1 : 0 + length versionLine ≤ length o
+  unfolding pointsPart
+  points-1 = room-one versionLine _ r
 
-  pub numbers-long : length (dataWord ++ (digits n ++ scalarLines)) ≡ 57 + length (digits n)
-  unfolding dataWord scalarLines
-  numbers-long = length-lines dataWord n scalarLines ∙ omega arith
+  module _ {o1 : List ℕ} {a : ℕ} (s1 : Stored o 0 versionLine a o1) where
+    points-rest : Room o1 a ((ourTitle ++ feed) ++ (pointLines ++ bytesOf true P))
+    unfolding pointsPart
+    points-rest = room-then versionLine _ r s1
 
--- the parts as they are stored make up the file
+    pub points-2 : a + length (ourTitle ++ feed) ≤ length o1
+    points-2 = room-one (ourTitle ++ feed) _ points-rest
+
+    module _ {o2 : List ℕ} {b : ℕ} (s2 : Stored o1 a (ourTitle ++ feed) b o2) where
+      pub points-3 : b + length pointLines ≤ length o2
+      points-3 = room-one pointLines (bytesOf true P) (room-then (ourTitle ++ feed) _ points-rest s2)
+
+      module _ {o3 : List ℕ} {c : ℕ} (s3 : Stored o2 b pointLines c o3) where
+        pub points-4 : c + 4 * length P ≤ length o3
+        points-4 = room-block P (room-then pointLines (bytesOf true P) (room-then (ourTitle ++ feed) _ points-rest s2) s3)
+
+        pub points-stored : {o4 : List ℕ} → o4 ≡ sets o3 c (bytesOf true P) → Stored o 0 (pointsPart P) (c + 4 * length P) o4
+        unfolding pointsPart
+        points-stored e = stored-both refl s1 (stored-both refl s2 (stored-both refl s3 (block-stored P e refl)))
+
+module _ (C : List ℕ) {o : List ℕ} {at : ℕ} (r : Room o at (cellsPart C)) where
+  abbrev cellLines : List ℕ
+  cellLines = cellsWord ++ (digits (cellsOf C) ++ space)
+
+  pub cells-1 : at + length cellLines ≤ length o
+  unfolding cellsPart
+  cells-1 = room-one cellLines _ r
+
+  module _ {o1 : List ℕ} {a : ℕ} (s1 : Stored o at cellLines a o1) where
+    cells-rest : Room o1 a (digits (5 * cellsOf C) ++ (feed ++ bytesOf true (led C)))
+    unfolding cellsPart
+    cells-rest = room-then cellLines _ r s1
+
+    pub cells-2 : a + length (digits (5 * cellsOf C)) ≤ length o1
+    cells-2 = room-one (digits (5 * cellsOf C)) _ cells-rest
+
+    module _ {o2 : List ℕ} {b : ℕ} (s2 : Stored o1 a (digits (5 * cellsOf C)) b o2) where
+      pub cells-3 : b + length feed ≤ length o2
+      cells-3 = room-one feed (bytesOf true (led C)) (room-then (digits (5 * cellsOf C)) _ cells-rest s2)
+
+      module _ {o3 : List ℕ} {c : ℕ} (s3 : Stored o2 b feed c o3) where
+        pub cells-4 : c + 20 * cellsOf C ≤ length o3
+        cells-4 = omega (arith, room-block (led C) (room-then feed (bytesOf true (led C)) (room-then (digits (5 * cellsOf C)) _ cells-rest s2) s3), length-led C)
+
+        pub cells-stored : {o4 : List ℕ} → o4 ≡ sets o3 c (bytesOf true (led C)) → Stored o at (cellsPart C) (c + 20 * cellsOf C) o4
+        unfolding cellsPart
+        cells-stored e = stored-both refl s1 (stored-both refl s2 (stored-both refl s3 (block-stored (led C) e (omega (arith, length-led C)))))
+
+module _ (n : ℕ) {o : List ℕ} {at : ℕ} (r : Room o at (typesPart n)) where
+  abbrev typeLines : List ℕ
+  typeLines = typesWord ++ (digits n ++ feed)
+
+  pub types-1 : at + length typeLines ≤ length o
+  unfolding typesPart
+  types-1 = room-one typeLines _ r
+
+  module _ {o1 : List ℕ} {a : ℕ} (s1 : Stored o at typeLines a o1) where
+    pub types-2 : a + 4 * n ≤ length o1
+    unfolding typesPart
+    types-2 = omega (arith, room-block (typesOf n) (room-then typeLines (bytesOf true (typesOf n)) r s1), length-replicate {A = ℕ} n 10)
+
+    pub types-stored : {o2 : List ℕ} → o2 ≡ sets o1 a (bytesOf true (typesOf n)) → Stored o at (typesPart n) (a + 4 * n) o2
+    unfolding typesPart
+    types-stored e = stored-both refl s1 (block-stored (typesOf n) e (omega (arith, length-replicate {A = ℕ} n 10)))
+
+module _ (C : List ℕ) {o : List ℕ} {at : ℕ} (r : Room o at (numbersPart C)) where
+  abbrev numberLines : List ℕ
+  numberLines = dataWord ++ (digits (cellsOf C) ++ scalarLines)
+
+  abbrev numbers : List ℕ
+  numbers = componentNumbers C (cellsOf C)
+
+  numbers-long : length (bytesOf true numbers) ≡ 4 * cellsOf C
+  numbers-long = length-bytes true numbers ∙ omega (arith, length-components C (cellsOf C))
+
+  pub numbers-1 : at + length numberLines ≤ length o
+  unfolding numbersPart
+  numbers-1 = room-one numberLines _ r
+
+  module _ {o1 : List ℕ} {a : ℕ} (s1 : Stored o at numberLines a o1) where
+    numbers-rest : Room o1 a (bytesOf true numbers ++ feed)
+    unfolding numbersPart
+    numbers-rest = room-then numberLines _ r s1
+
+    pub numbers-2 : a + 4 * cellsOf C ≤ length o1
+    numbers-2 = omega (arith, room-one (bytesOf true numbers) feed numbers-rest, numbers-long)
+
+    module _ {o2 : List ℕ} (e2 : o2 ≡ sets o1 a (bytesOf true numbers)) where
+      s2 : Stored o1 a (bytesOf true numbers) (a + 4 * cellsOf C) o2
+      s2 = block-stored numbers e2 (omega (arith, length-components C (cellsOf C)))
+
+      pub numbers-3 : a + 4 * cellsOf C + length feed ≤ length o2
+      numbers-3 = room-then (bytesOf true numbers) feed numbers-rest s2 .fits
+
+      pub numbers-stored : {o3 : List ℕ} {b : ℕ} → Stored o2 (a + 4 * cellsOf C) feed b o3 → o3 ≡ sets o at (numbersPart C)
+      unfolding numbersPart
+      numbers-stored s3 = stored-both refl s1 (stored-both refl s2 s3) .kept
+
+-- ---- the file
+
 module _ (P C : List ℕ) where
-  abbrev p : ℕ
-  p = pointsOf P
-
-  abbrev n : ℕ
-  n = cellsOf C
-
-  abbrev parts : List ℕ
-  parts =
-      (headLines ++ (digits p ++ floatLine)) ++ bytesOf true P ++ ((cellsWord ++ (digits n ++ space)) ++ ([] ++ (digits (5 * n) ++ feed))) ++ bytesOf true (led C)
-      ++ (typesWord ++ (digits n ++ feed)) ++ bytesOf true (typesOf n) ++ (dataWord ++ (digits n ++ scalarLines)) ++ bytesOf true (componentNumbers C n) ++ feed
-
-  parts-are : parts ≡ vtkFile ourTitle P C
-  unfolding vtkFile written
+  pub parts-are : pointsPart P ++ (cellsPart C ++ (typesPart (cellsOf C) ++ numbersPart C)) ≡ vtkFile ourTitle P C
+  unfolding vtkFile written pointsPart cellsPart typesPart numbersPart
   parts-are = simp append-assoc
 
   pub length-file : length P ≡ 3 * pointsOf P → length (vtkFile ourTitle P C) ≡ vtkBytes P C
-  length-file h = ap length (sym parts-are) ∙ total
-    where
-      last : length feed ≡ 1
-      last = unfold feed in refl
+  unfolding pointsPart cellsPart typesPart numbersPart versionLine ourTitle feed datasetLines floatLine cellsWord space typesWord dataWord scalarLines textOf
+  length-file h =
+      ap length (sym parts-are)
+      ∙ simp length-append
+      (omega (
+        arith,
+        length-bytes true P,
+        length-bytes true (led C),
+        length-led C,
+        length-bytes true (typesOf (cellsOf C)),
+        length-replicate {A = ℕ} (cellsOf C) 10,
+        length-bytes true (componentNumbers C (cellsOf C)),
+        length-components C (cellsOf C),
+      ))
 
-      total : length parts ≡ vtkBytes P C
-      total =
-          simp length-append
-          (omega (
-            arith,
-            simp length-append at (head-long p n),
-            simp length-append at (cells-long p n),
-            simp length-append at (fives-long p n),
-            simp length-append at (types-long p n),
-            simp length-append at (numbers-long p n),
-            length-bytes true P,
-            length-bytes true (led C),
-            length-led C,
-            length-bytes true (typesOf n),
-            length-replicate {A = ℕ} n 10,
-            length-bytes true (componentNumbers C n),
-            length-components C n,
-            last,
-          ))
+  -- the file is stored part by part
+  module _ {o w : List ℕ} (h : Storable (vtkBytes P C) P C o w) where
+    file-room : Room o 0 (pointsPart P ++ (cellsPart C ++ (typesPart (cellsOf C) ++ numbersPart C)))
+    file-room = record { fits = omega (arith, ap length parts-are, length-file (h .whole), h .long) }
 
-  pub mesh-placed : (o w : List ℕ) {o1 o2 o3 o4 o5 o6 o7 o8 o9 o10 w′ : List ℕ} {a b c d e f : ℕ} → Storable (vtkBytes P C) P C o w
-      → Stored o 0 (headLines ++ (digits p ++ floatLine)) a o1 → o2 ≡ sets o1 a (bytesOf true P)
-      → Stored o2 (a + 12 * p) (cellsWord ++ (digits n ++ space)) b o3 → Stored o3 b ([] ++ (digits (5 * n) ++ feed)) c o4
-      → o5 ≡ sets o4 c (bytesOf true (led C)) → Stored o5 (c + 20 * n) (typesWord ++ (digits n ++ feed)) d o6
-      → o7 ≡ sets o6 d (bytesOf true (typesOf n)) → Stored o7 (d + 4 * n) (dataWord ++ (digits n ++ scalarLines)) e o8
-      → o9 ≡ sets o8 e (bytesOf true (componentNumbers C n)) → Stored o9 (e + 4 * n) feed f o10
-      → w′ ≡ replicate (length w) 0 → Placed (vtkFile ourTitle P C) o10 w w′
-  mesh-placed o w {a = a} {b = b} {c = c} {d = d} {e = e} {f = f} h e1 e2 e3 e4 e5 e6 e7 e8 e9 e10 ew =
-      let k2 = stored-then e1 (block a (a + 12 * p) P e2 (omega (arith, h .whole))) in
-      let k4 = stored-then k2 (stored-then e3 e4) in
-      let k5 = stored-then k4 (block c (c + 20 * n) (led C) e5 (omega (arith, length-led C))) in
-      let k6 = stored-then k5 e6 in
-      let k7 = stored-then k6 (block d (d + 4 * n) (typesOf n) e7 (omega (arith, length-replicate {A = ℕ} n 10))) in
-      let k8 = stored-then k7 e8 in
-      let k9 = stored-then k8 (block e (e + 4 * n) (componentNumbers C n) e9 (omega (arith, length-components C n))) in
-      let k = stored-then k9 e10 in
-      record {
-        file =
-            k .kept ∙ ap (sets o 0) parts-are
-            ∙ sets-whole (vtkFile ourTitle P C) o (length-file (h .whole) ∙ sym (h .long));
-        zero = ew;
-      }
+    pub room-1 : Room o 0 (pointsPart P)
+    room-1 = record { fits = room-one (pointsPart P) _ file-room }
+
+    pub room-2 : {o1 : List ℕ} {a : ℕ} → Stored o 0 (pointsPart P) a o1 → Room o1 a (cellsPart C)
+    room-2 e1 = record { fits = room-one (cellsPart C) _ (room-then (pointsPart P) _ file-room e1) }
+
+    pub room-3 : {o1 o2 : List ℕ} {a b : ℕ} → Stored o 0 (pointsPart P) a o1 → Stored o1 a (cellsPart C) b o2 → Room o2 b (typesPart (cellsOf C))
+    room-3 e1 e2 = record { fits = room-one (typesPart (cellsOf C)) _ (room-then (cellsPart C) _ (room-then (pointsPart P) _ file-room e1) e2) }
+
+    pub room-4 : {o1 o2 o3 : List ℕ} {a b c : ℕ} → Stored o 0 (pointsPart P) a o1 → Stored o1 a (cellsPart C) b o2
+        → Stored o2 b (typesPart (cellsOf C)) c o3 → Room o3 c (numbersPart C)
+    room-4 e1 e2 e3 = room-then (typesPart (cellsOf C)) (numbersPart C) (room-then (cellsPart C) _ (room-then (pointsPart P) _ file-room e1) e2) e3
+
+    pub mesh-placed : {o1 o2 o3 o4 w′ : List ℕ} {a b c : ℕ} → Stored o 0 (pointsPart P) a o1 → Stored o1 a (cellsPart C) b o2
+        → Stored o2 b (typesPart (cellsOf C)) c o3 → Ended C c o3 o4 w w′ → Placed (vtkFile ourTitle P C) o4 w w′
+    mesh-placed {o1} {o2} {o3} {o4} {w′} {a} {b} {c} e1 e2 e3 e4 =
+        let k = storing-on (storing-on (storing-on storing-start (first-of (pointsPart P) _) e1) (first-of (cellsPart C) _) e2) (first-of (typesPart (cellsOf C)) (numbersPart C)) e3 in
+        record {
+          file = e4 .stored ∙ k .kept ∙ ap (sets o 0) parts-are ∙ sets-whole (vtkFile ourTitle P C) o (length-file (h .whole) ∙ sym (h .long));
+          zero = e4 .zero;
+        }

@@ -1,2 +1,3 @@
 -- The definitions that the contracts of vtk_writer cite.
-pub mod Write
+pub mod Step
+pub mod Parts

@@ -1,15 +1,28 @@
-// The viewer's format: a legacy VTK file, version 3.0, binary, with the component numbers as cell data. `write_vtk`.
+// The step `write_vtk`: the viewer's file of points and cells, a legacy VTK file with the component numbers as cell data.
+use refusals::Counted;
+use vtk_layout::CELLS_WORD;
+use vtk_layout::DATA_WORD;
+use vtk_layout::DATASET_LINES;
+use vtk_layout::FEED;
+use vtk_layout::FLOAT_LINE;
+use vtk_layout::SCALAR_LINES;
+use vtk_layout::SPACE;
+use vtk_layout::TITLE_LINE;
+use vtk_layout::TYPES_WORD;
+use vtk_layout::VERSION_LINE;
 ghost use mathlib.Core.Path.{_≡_};
 ghost use mathlib.Core.Bool.{true};
 ghost use Prim.Native.Nat.{ℕ, _+_, _*_, _/_, _≤_, _<_};
 ghost use lib.ListN.{length};
 ghost use lib.Seq.{sets};
+ghost use Rattle.lists.specs.Runs.{Stored, Room};
 ghost use Rattle.words.specs.Words.{bytesOf};
-ghost use Rattle.mesh_file.specs.Writer.{Storable, Placed};
-ghost use Rattle.vtk_layout.specs.Layout.{ourTitle};
+ghost use Rattle.components.specs.Parts.{Fits};
+ghost use Rattle.file_steps.specs.Parts.{Storable, Placed};
+ghost use Rattle.vtk_layout.specs.Texts.{ourTitle};
 ghost use Rattle.vtk_layout.specs.File.{led, vtkFile};
-ghost use Rattle.vtk_writer.specs.Write.{bytesOfCounts, vtkBytes, ledCell, WriteDone};
-use mesh_file::Written;
+ghost use Rattle.vtk_writer.specs.Step.{bytesOfCounts, vtkBytes, WriteDone};
+ghost use Rattle.vtk_writer.specs.Parts.{ledCell, pointsPart, cellsPart, typesPart, numbersPart, Ended};
 
 // Stores cell i, led by a four.
 fn put_cell(cells: &[u32], i: usize, file: &mut [u8], at: usize)
@@ -37,35 +50,61 @@ fn put_cells(cells: &[u32], file: &mut [u8], at: usize)
     }
 }
 
+// Stores the header and the points, and answers the place after them.
+fn put_points(points: &[u32], file: &mut [u8]) -> usize
+    requires { ⌜ Room (now file) 0 (pointsPart (now points)) ⌝ }
+    ensures { λ r. ⌜ Stored (now (file .entry)) 0 (pointsPart (now (points .entry))) r (now (file .exit)) ⌝ }
+{
+    let title = decimal::put_text(file, 0, &VERSION_LINE);
+    let dataset = decimal::put_text(file, title, &TITLE_LINE);
+    let block = vtk_layout::put_lines(file, dataset, &DATASET_LINES, points.len() / 3, &FLOAT_LINE);
+    words::put_words(points, file, block, true);
+    block + 4 * points.len()
+}
+
+// Stores the cells behind their header, and answers the place after them.
+fn put_cell_block(cells: &[u32], file: &mut [u8], at: usize) -> usize
+    requires { ⌜ Room (now file) at (cellsPart (now cells)) ⌝ }
+    ensures { λ r. ⌜ Stored (now (file .entry)) at (cellsPart (now (cells .entry))) r (now (file .exit)) ⌝ }
+{
+    let n = cells.len() / 4;
+    let words = vtk_layout::put_lines(file, at, &CELLS_WORD, n, &SPACE);
+    let feed = decimal::put_digits(file, words, 5 * n);
+    let block = decimal::put_text(file, feed, &FEED);
+    put_cells(cells, file, block);
+    block + 20 * n
+}
+
+// Stores the types of n cells behind their header, and answers the place after them.
+fn put_types(n: usize, file: &mut [u8], at: usize) -> usize
+    requires { ⌜ Room (now file) at (typesPart n) ⌝ }
+    ensures { λ r. ⌜ Stored (now (file .entry)) at (typesPart n) r (now (file .exit)) ⌝ }
+{
+    let block = vtk_layout::put_lines(file, at, &TYPES_WORD, n, &FEED);
+    words::put_same(file, block, true, n, 10);
+    block + 4 * n
+}
+
+// Stores the component numbers of the cells behind their header, and the last line feed; the work table is left zero.
+fn put_numbers(cells: &[u32], file: &mut [u8], at: usize, work: &mut [u32])
+    requires { ⌜ Room (now file) at (numbersPart (now cells)) × Fits (now cells) (now work) ⌝ }
+    ensures { λ _. ⌜ Ended (now (cells .entry)) at (now (file .entry)) (now (file .exit)) (now (work .entry)) (now (work .exit)) ⌝ }
+{
+    let n = cells.len() / 4;
+    let block = vtk_layout::put_lines(file, at, &DATA_WORD, n, &SCALAR_LINES);
+    file_components::put_numbers(cells, file, block, true, work);
+    let _end = decimal::put_text(file, block + 4 * n, &FEED);
+}
+
 // Fills a table of exactly its length with the file of a mesh.
 fn put_mesh(points: &[u32], cells: &[u32], file: &mut [u8], work: &mut [u32])
     requires { ⌜ Storable (vtkBytes (now points) (now cells)) (now points) (now cells) (now file) (now work) ⌝ }
     ensures { λ _. ⌜ Placed (vtkFile ourTitle (now (points .entry)) (now (cells .entry))) (now (file .exit)) (now (work .entry)) (now (work .exit)) ⌝ }
 {
-    let p = points.len() / 3;
-    let n = cells.len() / 4;
-    let a = vtk_layout::put_lines(
-        file,
-        0,
-        b"# vtk DataFile Version 3.0\ncover mesh\nBINARY\nDATASET UNSTRUCTURED_GRID\nPOINTS ",
-        p,
-        b" float\n",
-    );
-    words::put_words(points, file, a, true);
-    let b = vtk_layout::put_lines(file, a + 12 * p, b"\nCELLS ", n, b" ");
-    let c = vtk_layout::put_lines(file, b, b"", 5 * n, b"\n");
-    put_cells(cells, file, c);
-    let d = vtk_layout::put_lines(file, c + 20 * n, b"\nCELL_TYPES ", n, b"\n");
-    words::put_same(file, d, true, n, 10);
-    let e = vtk_layout::put_lines(
-        file,
-        d + 4 * n,
-        b"\nCELL_DATA ",
-        n,
-        b"\nSCALARS component int 1\nLOOKUP_TABLE default\n",
-    );
-    file_components::put_numbers(cells, file, e, true, work);
-    let _end = decimal::put_text(file, e + 4 * n, b"\n");
+    let second = put_points(points, file);
+    let third = put_cell_block(cells, file, second);
+    let last = put_types(cells.len() / 4, file, third);
+    put_numbers(cells, file, last, work);
 }
 
 // The bytes that the file of a mesh of p points and n cells takes.
@@ -81,18 +120,18 @@ fn bytes_for(p: usize, n: usize) -> usize
 
 // Writes the viewer's file of a mesh. Refused with 4, 5 or 8, and with 9 where `file` is shorter than the bytes needed, which it then
 // carries: both tables are then as lent. Answered with the bytes written: the first 2 entries a point of `work` are then zero.
-pub fn write_vtk(points: &[u32], cells: &[u32], file: &mut [u8], work: &mut [u32]) -> Written
+pub fn write_vtk(points: &[u32], cells: &[u32], file: &mut [u8], work: &mut [u32]) -> Counted
     ensures { λ r. ⌜ WriteDone (now (points .entry)) (now (cells .entry)) (now (file .entry)) (now (work .entry)) r (now (file .exit)) (now (work .exit)) ⌝ }
 {
     let number = mesh::judge(points.len(), cells, work.len(), 0, 2);
     if number != 0 {
-        return Written::Refused(number);
+        return Counted::Refused(number);
     }
     let bytes = bytes_for(points.len() / 3, cells.len() / 4);
     if file.len() < bytes {
-        return Written::Short(bytes as u64);
+        return Counted::Short(bytes as u64);
     }
     let need = 2 * (points.len() / 3);
     put_mesh(points, cells, &mut file[..bytes], &mut work[..need]);
-    Written::Done(bytes as u64)
+    Counted::Done(bytes as u64)
 }

@@ -5,7 +5,8 @@ ghost use Prim.Native.Nat.{ℕ, _+_, _*_, _≤_, _<_};
 ghost use lib.ListN.{length, replicate};
 ghost use lib.Seq.{sets};
 ghost use Rattle.lists.specs.Tables.{allBelow, same};
-ghost use Rattle.words.specs.Words.{bytes4, bytesOf, four, Bytes, turnedOf, wordAt, placeOf, wordsAt, spanOf};
+ghost use Rattle.words.specs.Words.{bytes4, bytesOf, four, wordAt, wordsAt, cellsAt};
+ghost use Rattle.words.specs.Parts.{Bytes, turnedOf, quadAt, WordsThere, CellsThere};
 
 // The number that four bytes are, the low byte first.
 fn low_first(a: u8, b: u8, c: u8, d: u8) -> u32
@@ -28,49 +29,89 @@ pub fn word(file: &[u8], at: usize, big: bool) -> u32
     low_first(file[at], file[at + 1], file[at + 2], file[at + 3])
 }
 
-// The word number i of those from a place on; `led` says that each four of them follow one that is passed over.
-pub fn word_of(file: &[u8], at: usize, big: bool, led: bool, i: usize) -> u32
-    requires { ⌜ at + 4 * placeOf led i + 4 ≤ length (now file) ⌝ }
-    ensures { λ r. ⌜ r ≡ wordAt big (now (file .entry)) (at + 4 * placeOf led i) ⌝ }
-{
-    if led {
-        return word(file, at + 4 * (i + i / 4 + 1), big);
-    }
-    word(file, at + 4 * i, big)
+// Four words.
+pub struct Quad {
+    pub a: u32,
+    pub b: u32,
+    pub c: u32,
+    pub d: u32,
 }
 
-// Reads as many words from a place on as the table holds.
-pub fn get_words(file: &[u8], at: usize, big: bool, led: bool, table: &mut [u32])
-    requires { ⌜ at + spanOf led (length (now table)) ≤ length (now file) ⌝ }
-    ensures { λ _. ⌜ now (table .exit) ≡ wordsAt big led (now (file .entry)) at (length (now (table .entry))) ⌝ }
-{
-    let mut i: usize = 0;
-    while i < table.len() {
-        table[i] = word_of(file, at, big, led, i);
-        i += 1;
-    }
-}
-
-// Whether each of four words from a place on is below the bound. All are read first, so that they are compared at once.
-pub fn four_below(file: &[u8], at: usize, big: bool, bound: u32) -> bool
+// The four words from a place on. All are read first, so that what follows takes them at once.
+pub fn quad_at(file: &[u8], at: usize, big: bool) -> Quad
     requires { ⌜ at + 16 ≤ length (now file) ⌝ }
-    ensures { λ r. ⌜ r ≡ allBelow bound (wordsAt big false (now (file .entry)) at 4) ⌝ }
+    ensures { λ r. ⌜ r ≡ quadAt big (now (file .entry)) at ⌝ }
 {
     let a = word(file, at, big);
     let b = word(file, at + 4, big);
     let c = word(file, at + 8, big);
     let d = word(file, at + 12, big);
-    a < bound && b < bound && c < bound && d < bound
+    Quad { a, b, c, d }
 }
 
-// Whether each word of so many cells from a place on is below the bound.
-pub fn all_below(file: &[u8], at: usize, big: bool, cells: usize, bound: u32) -> bool
-    requires { ⌜ at + 16 * cells ≤ length (now file) ⌝ }
-    ensures { λ r. ⌜ r ≡ allBelow bound (wordsAt big false (now (file .entry)) at (4 * cells)) ⌝ }
+// Reads as many words from a place on as the table holds.
+pub fn get_words(file: &[u8], at: usize, big: bool, table: &mut [u32])
+    requires { ⌜ WordsThere (now file) at (length (now table)) ⌝ }
+    ensures { λ _. ⌜ now (table .exit) ≡ wordsAt big (now (file .entry)) at (length (now (table .entry))) ⌝ }
 {
     let mut i: usize = 0;
-    while i < cells {
-        if !four_below(file, at + 16 * i, big, bound) {
+    while i < table.len() {
+        table[i] = word(file, at + 4 * i, big);
+        i += 1;
+    }
+}
+
+// Reads n cells from a place on, each `stride` words behind the one before it.
+fn get_apart(file: &[u8], at: usize, stride: usize, big: bool, n: usize, cells: &mut [u32])
+    requires { ⌜ CellsThere stride (now file) at n × (length (now cells) ≡ 4 * n) ⌝ }
+    ensures { λ _. ⌜ now (cells .exit) ≡ cellsAt big stride (now (file .entry)) at n ⌝ }
+{
+    let mut i: usize = 0;
+    while i < n {
+        let q = quad_at(file, at + 4 * (stride * i), big);
+        lists::store4(cells, 4 * i, q.a, q.b, q.c, q.d);
+        i += 1;
+    }
+}
+
+// Reads n cells from a place on. Where no word stands between them they are words.
+pub fn get_cells(file: &[u8], at: usize, stride: usize, big: bool, n: usize, cells: &mut [u32])
+    requires { ⌜ CellsThere stride (now file) at n × (length (now cells) ≡ 4 * n) ⌝ }
+    ensures { λ _. ⌜ now (cells .exit) ≡ cellsAt big stride (now (file .entry)) at n ⌝ }
+{
+    if stride == 4 {
+        get_words(file, at, big, cells);
+        return;
+    }
+    get_apart(file, at, stride, big, n, cells);
+}
+
+// Whether each of four words from a place on is below the bound.
+pub fn four_below(file: &[u8], at: usize, big: bool, bound: u32) -> bool
+    requires { ⌜ at + 16 ≤ length (now file) ⌝ }
+    ensures { λ r. ⌜ r ≡ allBelow bound (wordsAt big (now (file .entry)) at 4) ⌝ }
+{
+    let q = quad_at(file, at, big);
+    if bound <= q.a {
+        return false;
+    }
+    if bound <= q.b {
+        return false;
+    }
+    if bound <= q.c {
+        return false;
+    }
+    q.d < bound
+}
+
+// Whether each word of n cells from a place on is below the bound.
+pub fn cells_below(file: &[u8], at: usize, stride: usize, big: bool, n: usize, bound: u32) -> bool
+    requires { ⌜ CellsThere stride (now file) at n ⌝ }
+    ensures { λ r. ⌜ r ≡ allBelow bound (cellsAt big stride (now (file .entry)) at n) ⌝ }
+{
+    let mut i: usize = 0;
+    while i < n {
+        if !four_below(file, at + 4 * (stride * i), big, bound) {
             return false;
         }
         i += 1;
@@ -96,7 +137,7 @@ fn turned(x: u32, big: bool) -> u32
 // compared at once.
 pub fn all_are(file: &[u8], at: usize, big: bool, n: usize, x: u32) -> bool
     requires { ⌜ at + 4 * n ≤ length (now file) ⌝ }
-    ensures { λ r. ⌜ r ≡ same (wordsAt big false (now (file .entry)) at n) (replicate n x) ⌝ }
+    ensures { λ r. ⌜ r ≡ same (wordsAt big (now (file .entry)) at n) (replicate n x) ⌝ }
 {
     let y = turned(x, big);
     let mut all = true;

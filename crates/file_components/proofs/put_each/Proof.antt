@@ -4,7 +4,7 @@ use native.Mathlib.Omega.{arith}
 use Prim.Native.Nat.{_-_, _/_, _≤_}
 use lib.ListN.{length}
 use Rattle.mesh.specs.Mesh.{cellsOf}
-use Rattle.words.proofs.Words.{Writing, writing-start, writing-on, writing-done}
+use Rattle.words.proofs.Turns.{Writing, writing-start, writing-on, writing-done}
 use Rattle.components.specs.Numbers.{componentNumbers}
 use Rattle.components.proofs.Numbering.{Numbering, numbering-start, asks-for, count-small, number-is, number-small, numbering-on}
 use Rattle.components.proofs.Patterns.{length-components}

@@ -2,7 +2,9 @@ use mathlib.Core.Path.{sym, _∙_}
 use borrow.Author.Needs.{needs}
 use Rattle.decimal.proofs.Texts.{onwards, halted}
 use Rattle.vtk_layout.proofs.Parts.{section-in}
-use Rattle.vtk_layout.specs.Layout.{feed, space, cellsOn}
+use Rattle.decimal.specs.Text.{textOf}
+use Rattle.vtk_layout.specs.Texts.{feed, space}
+use Rattle.vtk_layout.specs.Layout.{cellsOn}
 use Rattle.vtk_layout.proofs.cells_on.Statement.{statement}
 use Rattle.vtk_layout.proofs.cells_on.Tie as tie
 use Rattle.vtk_layout.proofs.cells_on.Reads as reads
@@ -35,11 +37,11 @@ enum-known-number : tie.Need-enum-known-number
 enum-known-number c = search needs
 
 returns : tie.Need-returns
-unfolding cellsOn space feed
+unfolding cellsOn space feed textOf
 returns c = onwards _ _ _ _ _ (c .before .before .before .before .section .ensures) (c .before .before .cells .given .1) (c .types-on .ensures)
 
 returns-2 : tie.Need-returns-2
-unfolding cellsOn space feed
+unfolding cellsOn space feed textOf
 returns-2 c = halted _ _ _ _ _ (c .before .before .before .section .ensures) (c .before .number .given .1)
 
 pub cells-on-spec : {M : Type 1} → statement M

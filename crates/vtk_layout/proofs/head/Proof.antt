@@ -1,6 +1,8 @@
 use borrow.Author.Needs.{needs}
 use Rattle.decimal.proofs.Texts.{onwards, halted}
-use Rattle.vtk_layout.specs.Layout.{versionLine, datasetLines, headOf}
+use Rattle.decimal.specs.Text.{textOf}
+use Rattle.vtk_layout.specs.Texts.{versionLine, datasetLines}
+use Rattle.vtk_layout.specs.Layout.{headOf}
 use Rattle.vtk_layout.proofs.head.Statement.{statement}
 use Rattle.vtk_layout.proofs.head.Tie as tie
 use Rattle.vtk_layout.proofs.head.Reads as reads
@@ -37,15 +39,15 @@ enum-known-number-2 : tie.Need-enum-known-number-2
 enum-known-number-2 c = search needs
 
 returns : tie.Need-returns
-unfolding headOf versionLine datasetLines
+unfolding headOf versionLine datasetLines textOf
 returns c = onwards _ _ _ _ _ (c .before .before .before .before .before .before .before .before .before .text .ensures) (c .before .before .before .before .before .before .before .first .given .1) (onwards _ _ _ _ _ (c .before .before .before .before .before .title .ensures) (c .before .before .before .second .given .1) (c .counted .ensures))
 
 returns-2 : tie.Need-returns-2
-unfolding headOf versionLine
+unfolding headOf versionLine textOf
 returns-2 c = onwards _ _ _ _ _ (c .before .before .before .before .before .before .before .text .ensures) (c .before .before .before .before .before .first .given .1) (halted _ _ _ _ _ (c .before .before .before .title .ensures) (c .before .number .given .1))
 
 returns-3 : tie.Need-returns-3
-unfolding headOf versionLine
+unfolding headOf versionLine textOf
 returns-3 c = halted _ _ _ _ _ (c .before .before .before .text .ensures) (c .before .number2 .given .1)
 
 pub head-spec : {M : Type 1} → statement M

@@ -3,7 +3,9 @@ use native.Mathlib.Omega.{arith}
 use borrow.Author.Needs.{needs}
 use Rattle.decimal.proofs.Texts.{onwards, halted}
 use Rattle.vtk_layout.proofs.Parts.{section-in}
-use Rattle.vtk_layout.specs.Layout.{dataWord, scalarLines, numbersOn}
+use Rattle.decimal.specs.Text.{textOf}
+use Rattle.vtk_layout.specs.Texts.{dataWord, scalarLines}
+use Rattle.vtk_layout.specs.Layout.{numbersOn}
 use Rattle.vtk_layout.proofs.numbers_on.Statement.{statement}
 use Rattle.vtk_layout.proofs.numbers_on.Tie as tie
 use Rattle.vtk_layout.proofs.numbers_on.Reads as reads
@@ -36,7 +38,7 @@ mul-end : tie.Need-mul-end
 mul-end c = search needs
 
 add-end : tie.Need-add-end
-unfolding dataWord scalarLines
+unfolding dataWord scalarLines textOf
 add-end c = omega (arith, section-in _ _ _ _ _ _ _ (sym (c .before .before .before .section .ensures) ∙ c .before .found .given .1))
 
 end-requires : tie.Need-end-requires
@@ -52,15 +54,15 @@ enum-known-found-2 : tie.Need-enum-known-found-2
 enum-known-found-2 c = search needs
 
 returns : tie.Need-returns
-unfolding numbersOn dataWord scalarLines
+unfolding numbersOn dataWord scalarLines textOf
 returns c = onwards _ _ _ _ _ (c .before .before .before .before .before .before .section .ensures) (c .before .before .before .before .found .given .1) (onwards _ _ _ _ _ (c .before .before .end .ensures) (c .enum-told .given .1) refl)
 
 returns-2 : tie.Need-returns-2
-unfolding numbersOn dataWord scalarLines
+unfolding numbersOn dataWord scalarLines textOf
 returns-2 c = onwards _ _ _ _ _ (c .before .before .before .before .before .before .before .section .ensures) (c .before .before .before .before .before .found .given .1) (halted _ _ _ _ _ (c .before .before .before .end .ensures) (c .before .number .given .1))
 
 returns-3 : tie.Need-returns-3
-unfolding numbersOn dataWord scalarLines
+unfolding numbersOn dataWord scalarLines textOf
 returns-3 c = halted _ _ _ _ _ (c .before .before .before .section .ensures) (c .before .found2 .given .1)
 
 pub numbers-on-spec : {M : Type 1} → statement M

@@ -4,7 +4,9 @@ use borrow.Author.Needs.{needs}
 use Rattle.decimal.proofs.Texts.{onwards, halted}
 use Rattle.decimal.proofs.Counts.{count-onwards, count-halted}
 use Rattle.vtk_layout.proofs.Parts.{line-in, counted-small}
-use Rattle.vtk_layout.specs.Layout.{floatLine, cellsWord, pointsOn}
+use Rattle.decimal.specs.Text.{textOf}
+use Rattle.vtk_layout.specs.Texts.{floatLine, cellsWord}
+use Rattle.vtk_layout.specs.Layout.{pointsOn}
 use Rattle.vtk_layout.proofs.points_on.Statement.{statement}
 use Rattle.vtk_layout.proofs.points_on.Tie as tie
 use Rattle.vtk_layout.proofs.points_on.Reads as reads
@@ -50,15 +52,15 @@ enum-known-number-2 : tie.Need-enum-known-number-2
 enum-known-number-2 c = search needs
 
 returns : tie.Need-returns
-unfolding pointsOn floatLine cellsWord
+unfolding pointsOn floatLine cellsWord textOf
 returns c = onwards _ _ _ _ _ (c .before .before .before .before .before .before .before .before .before .line .ensures) (c .before .before .before .before .before .before .before .points .given .1) (count-onwards _ _ _ _ _ _ (c .before .before .before .before .counted .ensures) (c .before .before .n .given .1) (c .cells-on .ensures))
 
 returns-2 : tie.Need-returns-2
-unfolding pointsOn floatLine cellsWord
+unfolding pointsOn floatLine cellsWord textOf
 returns-2 c = onwards _ _ _ _ _ (c .before .before .before .before .before .before .before .before .line .ensures) (c .before .before .before .before .before .before .points .given .1) (count-halted _ _ _ _ _ (c .before .before .before .counted .ensures) (c .before .number .given .1))
 
 returns-3 : tie.Need-returns-3
-unfolding pointsOn floatLine
+unfolding pointsOn floatLine textOf
 returns-3 c = halted _ _ _ _ _ (c .before .before .before .line .ensures) (c .before .number2 .given .1)
 
 pub points-on-spec : {M : Type 1} → statement M

@@ -1,7 +1,9 @@
 use mathlib.Core.Path.{_≡_, refl, sym, _∙_}
 use borrow.Author.Needs.{needs}
 use Rattle.vtk_layout.proofs.Parts.{title-on, title-feed, title-ends, title-last}
-use Rattle.vtk_layout.specs.Layout.{feed, titleAt}
+use Rattle.decimal.specs.Text.{textOf}
+use Rattle.vtk_layout.specs.Texts.{feed}
+use Rattle.vtk_layout.specs.Layout.{titleAt}
 use Rattle.vtk_layout.proofs.title.Statement.{statement}
 use Rattle.vtk_layout.proofs.title.Tie as tie
 use Rattle.vtk_layout.proofs.title.Reads as reads
@@ -48,7 +50,7 @@ text-requires : tie.Need-text-requires Inv-loop μ-loop
 text-requires c κs = search needs
 
 returns-3 : tie.Need-returns-3 Inv-loop μ-loop
-unfolding feed
+unfolding feed textOf
 returns-3 c = c .text .ensures ∙ sym (c .before .before .before .loop .inv ∙ title-last _ _ _ (c .before .before .loop-test .left))
 
 pub title-spec : {M : Type 1} → statement M

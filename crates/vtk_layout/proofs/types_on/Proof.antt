@@ -2,7 +2,9 @@ use mathlib.Core.Path.{sym, _∙_}
 use borrow.Author.Needs.{needs}
 use Rattle.decimal.proofs.Texts.{onwards, halted}
 use Rattle.vtk_layout.proofs.Parts.{section-in}
-use Rattle.vtk_layout.specs.Layout.{feed, typesWord, typesOn}
+use Rattle.decimal.specs.Text.{textOf}
+use Rattle.vtk_layout.specs.Texts.{feed, typesWord}
+use Rattle.vtk_layout.specs.Layout.{typesOn}
 use Rattle.vtk_layout.proofs.types_on.Statement.{statement}
 use Rattle.vtk_layout.proofs.types_on.Tie as tie
 use Rattle.vtk_layout.proofs.types_on.Reads as reads
@@ -38,11 +40,11 @@ enum-known-number : tie.Need-enum-known-number
 enum-known-number c = search needs
 
 returns : tie.Need-returns
-unfolding typesOn typesWord feed
+unfolding typesOn typesWord feed textOf
 returns c = onwards _ _ _ _ _ (c .before .before .before .before .section .ensures) (c .before .before .types .given .1) (c .numbers-on .ensures)
 
 returns-2 : tie.Need-returns-2
-unfolding typesOn typesWord feed
+unfolding typesOn typesWord feed textOf
 returns-2 c = halted _ _ _ _ _ (c .before .before .before .section .ensures) (c .before .number .given .1)
 
 pub types-on-spec : {M : Type 1} → statement M

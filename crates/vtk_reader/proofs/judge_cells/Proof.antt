@@ -2,7 +2,7 @@ use mathlib.Core.Logic.{⊎-elim}
 use native.Mathlib.Omega.{arith}
 use Prim.Native.Nat.{_-_}
 use Rattle.lists.proofs.Tests.{failed, passed}
-use Rattle.vtk_reader.proofs.Reading.{Looking, looking-start, looking-on, looking-past, looking-off, looking-all, looking-some}
+use Rattle.vtk_reader.proofs.Judging.{Looking, looking-start, looking-on, looking-past, looking-off, looking-all, looking-some}
 use borrow.Author.Needs.{needs}
 use Rattle.vtk_reader.proofs.judge_cells.Statement.{statement}
 use Rattle.vtk_reader.proofs.judge_cells.Tie as tie

@@ -1,7 +1,7 @@
 use mathlib.Core.Bool.{true}
 use native.Mathlib.Omega.{arith}
 use Prim.Native.Nat.{_-_, _*_}
-use Rattle.words.proofs.Words.{Writing, writing-start, writing-done}
+use Rattle.words.proofs.Turns.{Writing, writing-start, writing-done}
 use Rattle.vtk_layout.specs.File.{led}
 use Rattle.vtk_writer.proofs.Writing.{length-led, cells-on}
 use borrow.Author.Needs.{needs}

@@ -6,7 +6,8 @@ use native.Mathlib.Omega.{arith}
 use lib.ListN.{replicate}
 use Rattle.lists.specs.Tables.{same}
 use Rattle.words.specs.Words.{wordAt, wordsAt}
-use Rattle.words.proofs.Words.{comparing, are-not, are-still, are-all, turned-same, turned-other}
+use Rattle.words.proofs.Turns.{comparing, are-not, are-still, are-all}
+use Rattle.words.proofs.Words.{turned-same, turned-other}
 use borrow.Author.Needs.{needs}
 use Rattle.words.proofs.all_are.Statement.{statement}
 use Rattle.words.proofs.all_are.Tie as tie
@@ -16,7 +17,7 @@ use Rattle.words.proofs.low_first.Reads as low-first-reads
 use Rattle.words.proofs.turned.Reads as turned-reads
 
 abbrev Inv-loop : tie.InvT-loop
-Inv-loop file at big n x y all₀ i₀ all i = same (wordsAt big false file at n) (replicate n x) ≡ comparing big file at n x all i
+Inv-loop file at big n x y all₀ i₀ all i = same (wordsAt big file at n) (replicate n x) ≡ comparing big file at n x all i
 
 abbrev μ-loop : tie.MeasureT-loop
 μ-loop file at big n x y all₀ i₀ all i = n - i

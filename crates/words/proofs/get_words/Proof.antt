@@ -1,26 +1,32 @@
-use borrow.Author.Needs.{needs}
-use mathlib.Core.Path.{_≡_, refl, sym, _∙_}
+use Prim.Native.Nat.{_+_, _*_, _-_, _<_}
 use native.Mathlib.Omega.{arith}
-use Prim.Native.Nat.{_-_}
 use lib.ListN.{length, length-set}
-use Rattle.words.proofs.Words.{Reading, reading-start, reading-in, reading-on, reading-done}
+use Rattle.lists.proofs.Listing.{Filling, filling-start, filling-on, filling-done}
+use Rattle.words.specs.Words.{wordAt, wordsAt}
+use borrow.Author.Needs.{needs}
 use Rattle.words.proofs.get_words.Statement.{statement}
 use Rattle.words.proofs.get_words.Tie as tie
 use Rattle.words.proofs.get_words.Reads as reads
 use Rattle.words.proofs.get_words.Lts as lts
-use Rattle.words.proofs.word_of.Reads as word-of-reads
+use Rattle.words.proofs.word.Reads as word-reads
 
 abbrev Inv-loop : tie.InvT-loop
-Inv-loop file at big led table₀ i₀ table i = Reading big led file at table₀ table i
+Inv-loop file at big table₀ i₀ table i = Filling (λ k. wordAt big file (at + 4 * k)) table₀ table i
 
 abbrev μ-loop : tie.MeasureT-loop
-μ-loop file at big led table₀ i₀ table i = length table - i
+μ-loop file at big table₀ i₀ table i = length table - i
 
 loop-holds : tie.Need-loop-holds Inv-loop μ-loop
-loop-holds c = reading-start _ _ _ _ _
+loop-holds c = filling-start _ _
 
-word-of-requires : tie.Need-word-of-requires Inv-loop μ-loop
-word-of-requires c κs = reading-in _ _ _ _ _ _ _ (c .before .loop .inv) (c .before .before .before .before .pre) (c .loop-test .taken)
+mul-word : tie.Need-mul-word Inv-loop μ-loop
+mul-word c = search needs
+
+add-word : tie.Need-add-word Inv-loop μ-loop
+add-word c = omega (arith, c .before .before .before .before .pre .there (c .before .loop .i) (omega (arith, c .before .loop .inv .long)))
+
+word-requires : tie.Need-word-requires Inv-loop μ-loop
+word-requires c κs = c .before .before .before .before .pre .there (c .before .loop .i) (omega (arith, c .before .loop .inv .long))
 
 mul-table : tie.Need-mul-table Inv-loop μ-loop
 mul-table c = search needs
@@ -35,13 +41,14 @@ loop-less : tie.Need-loop-less Inv-loop μ-loop
 loop-less c = simp length-set (omega arith)
 
 loop-again : tie.Need-loop-again Inv-loop μ-loop
-loop-again c = reading-on _ _ _ _ _ _ _ (c .before .before .loop .inv) (c .before .loop-test .taken) _ (c .word-of .ensures)
+loop-again c = filling-on _ (c .before .before .loop .inv) (c .before .loop-test .taken) (c .word .ensures)
 
 same-length : tie.Need-same-length Inv-loop μ-loop
 same-length c = c .before .loop .inv .long
 
 returns : tie.Need-returns Inv-loop μ-loop
-returns c = reading-done _ _ _ _ _ _ _ (c .before .loop .inv) (c .loop-test .left)
+unfolding wordsAt
+returns c = filling-done _ (c .before .loop .inv) (c .loop-test .left)
 
 pub get-words-spec : {M : Type 1} → statement M
 get-words-spec =
@@ -50,7 +57,9 @@ get-words-spec =
     Inv-loop
     μ-loop
     loop-holds
-    word-of-requires
+    mul-word
+    add-word
+    word-requires
     mul-table
     slice-write-table
     add-i

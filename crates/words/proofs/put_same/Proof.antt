@@ -2,7 +2,7 @@ use mathlib.Core.Path.{_≡_, refl, sym, _∙_}
 use native.Mathlib.Omega.{arith}
 use Prim.Native.Nat.{_-_, _<_}
 use lib.ListN.{replicate, length-replicate, getD-replicate}
-use Rattle.words.proofs.Words.{Writing, writing-start, writing-on, writing-done}
+use Rattle.words.proofs.Turns.{Writing, writing-start, writing-on, writing-done}
 use borrow.Author.Needs.{needs}
 use Rattle.words.proofs.put_same.Statement.{statement}
 use Rattle.words.proofs.put_same.Tie as tie

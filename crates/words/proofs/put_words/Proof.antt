@@ -3,7 +3,7 @@ use mathlib.Core.Path.{_≡_, refl}
 use native.Mathlib.Omega.{arith}
 use Prim.Native.Nat.{_-_}
 use lib.ListN.{length}
-use Rattle.words.proofs.Words.{Writing, writing-start, writing-on, writing-done}
+use Rattle.words.proofs.Turns.{Writing, writing-start, writing-on, writing-done}
 use Rattle.words.proofs.put_words.Statement.{statement}
 use Rattle.words.proofs.put_words.Tie as tie
 use Rattle.words.proofs.put_words.Reads as reads

@@ -1,5 +1,5 @@
 use mathlib.Core.Path.{_≡_, refl, sym, _∙_}
-use Rattle.words.specs.Words.{turnedOf}
+use Rattle.words.specs.Parts.{turnedOf}
 use borrow.Author.Needs.{needs}
 use Rattle.words.proofs.turned.Statement.{statement}
 use Rattle.words.proofs.turned.Tie as tie

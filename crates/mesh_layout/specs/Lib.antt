@@ -1,0 +1,3 @@
+-- The definitions that the contracts of mesh_layout cite.
+pub mod Layout
+pub mod Parts

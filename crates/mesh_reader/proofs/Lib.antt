@@ -1,0 +1,3 @@
+-- Laws that the proofs of mesh_reader share, and what its contract means.
+pub mod Sections
+pub mod Theorems

@@ -1,0 +1,2 @@
+-- Laws that the proofs of mesh_writer share.
+pub mod Writing
