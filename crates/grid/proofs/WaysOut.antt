@@ -231,7 +231,7 @@ module _ (b : Bounds) (c : Float) (levels : ℕ) (p : Plan) (e : planOf b c leve
   unfolding splitRows eachRows
   long = eqb-true (length s) (p .octants) (not-false (eqb (length s) (p .octants)) (row 0))
 
-  graded : isGraded (dimsOf p) (p .levels) s ≡ true
+  pub graded : isGraded (dimsOf p) (p .levels) s ≡ true
   unfolding splitRows eachRows answerRows gradedRows
   graded = not-false (isGraded (dimsOf p) (p .levels) s) (row 2)
 

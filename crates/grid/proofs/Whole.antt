@@ -124,14 +124,14 @@ filled-counts p s cells triples points work n v = go (lacksCells (cellCount p s)
     go false false m l e = (cc, cc)
 
 -- what an answer is of: a plan, and a split table that it does not refuse
-record Answered (b : Bounds) (c : Float) (levels : ℕ) (s : List ℕ) (n v : ℕ) (p : Plan) : Type 0 where
-  ready : planOf b c levels ≡ planned.Ready p
-  accepted : first (splitRows p s) ≡ 0
-  cells : n ≡ cellCount p s
-  vertices : v ≡ vertexCount p s
+pub record Answered (b : Bounds) (c : Float) (levels : ℕ) (s : List ℕ) (n v : ℕ) (p : Plan) : Type 0 where
+  pub ready : planOf b c levels ≡ planned.Ready p
+  pub accepted : first (splitRows p s) ≡ 0
+  pub cells : n ≡ cellCount p s
+  pub vertices : v ≡ vertexCount p s
 
 module _ (b : Bounds) (c : Float) (levels : ℕ) (s C T P w : List ℕ) where
-  answered : (n v : ℕ) → gridOf b c levels s C T P w ≡ Done n v → (p : Plan) × Answered b c levels s n v p
+  pub answered : (n v : ℕ) → gridOf b c levels s C T P w ≡ Done n v → (p : Plan) × Answered b c levels s n v p
   unfolding gridOf
   answered n v = go (planOf b c levels) refl
     where

@@ -1,13 +1,14 @@
 -- The descent is the Rust's covering_leaf. Assumes nothing.
-use mathlib.Core.Path.{_≡_, refl, ap, ap₂, _∙_, fun-ext}
+use mathlib.Core.Path.{_≡_, refl, ap, ap₂, _∙_}
 use mathlib.Core.Bool.{Bool, true, false, cond}
-use Prim.Native.Nat.{ℕ, zero, suc, _+_, _-_, _/_}
-use native.Mathlib.Nat.{div-one, pow-zero, add-zero}
+use Prim.Native.Nat.{ℕ, zero, suc, _+_, _-_}
+use native.Mathlib.Nat.{add-zero}
 use Rattle.space.specs.Space.{Pos}
 use Rattle.octants.specs.Oct.{Tree, counts, within}
 use Rattle.octree.specs.Parts.{placeOf}
 use Rattle.octree.specs.declared.Octant.{Octant}
 use Rattle.octree_cells.specs.Cells.{Cover, none, leaf, up, descent, covering, ofLevel, isLeaf}
+use Rattle.octree_cells.proofs.Shell.{up-zero}
 use Rattle.lookup.specs.Parts.{ancestorOf, descentOf, coveredOf, coverOf}
 use Rattle.lookup.specs.declared.Covered.{Covered}
 use Rattle.lookup.specs.declared.Covered.the-variants.{Leaf, Split, Outside}
@@ -16,9 +17,6 @@ use Rattle.lookup.proofs.Descent.{place-up}
 choose : (b : Bool) (p q : Covered) → coverOf (cond b p q) ≡ cond b (coverOf p) (coverOf q)
 choose true p q = refl
 choose false p q = refl
-
-up-zero : (x : Pos) → up 0 x ≡ x
-up-zero x = fun-ext (λ a. ap (λ (v : ℕ). x a / v) (pow-zero 2) ∙ div-one (x a))
 
 module _ (l : ℕ) (d : Pos) (t : Tree) (o : Octant) where
   descent-is : (k : ℕ) → coverOf (descentOf t o k) ≡ descent t (o .level) (placeOf o) k

@@ -1,5 +1,5 @@
 -- The side of a leaf of a graded octree, by the splits of the neighbour and of its parent alone.
-use mathlib.Core.Path.{_≡_, refl, ap, sym, _∙_, subst, fun-ext}
+use mathlib.Core.Path.{_≡_, refl, ap, sym, _∙_, subst, subst₂, fun-ext}
 use mathlib.Core.Bool.{Bool, true, false, cond, not, _||_}
 use mathlib.Core.Logic.{_⊎_, ⊎-elim}
 use Prim.Native.Nat.{ℕ, suc, _+_, _*_, _-_, _/_, _%_, _≤_, _<_}
@@ -12,11 +12,9 @@ use Rattle.octants.specs.Oct.{Tree, counts, parent, In, Closed}
 use Rattle.lists.proofs.Bools.{and-both, both-and, bool-cases, clash}
 use Rattle.octants.proofs.Least.{closed-octree}
 use Rattle.octree_cells.specs.Cells.{Side, split, equal, coarser, border, side, reaches, beside, stepped, end, face, faceCentre, turnsTo}
-use Rattle.octree_cells.specs.Leaf.{own}
-use Rattle.octree_cells.specs.Leaf.{IsLeaf}
+use Rattle.octree_cells.specs.Leaf.{own, IsLeaf, turnAt, Found}
 use Rattle.octree_cells.proofs.Local.{own-local, own-root}
-use Rattle.octree_cells.proofs.Sides.{beside-in, side-split, side-coarser, side-equal, turns-parity}
-use Rattle.octree_cells.specs.Leaf.{turnAt}
+use Rattle.octree_cells.proofs.Sides.{beside-in, side-split, side-coarser, side-equal, turns-parity, centre-in}
 
 -- what the code finds: r, there is a neighbour; b, it is split; p, it is a root or its parent is split
 abbrev pub localSide : (r b p : Bool) → Side → Side
@@ -107,12 +105,48 @@ beside-at ax s x = (refl, refl, refl)
 beside-at ay s x = (refl, refl, refl)
 beside-at az s x = (refl, refl, refl)
 
--- the turn of the half-pyramids at a coarser neighbour
-pub turn-local : (t : Tree) (m : ℕ) (x : Pos) (a : Axis) (s : Bool) (n : ℕ) → reaches n s (x a) ≡ true
-    → t (suc m) (parent x) ≡ true → t (suc m) (parent (beside a s x)) ≡ false
-    → turnsTo (faceCentre (face (suc m) (parent (beside a s x)) a (not s))) (face m x a s) ≡ turnAt (x (next a)) (x (next (next a)))
-turn-local t m x a s n r p f =
-    let b = beside-at a s x in
-    turns-parity a m x (parent (beside a s x)) s
-    (plane-of s n (x a) r (λ e. clash (ap (t (suc m)) (same-parent a s x e) ∙ p) f) ∙ ap (λ (i : ℕ). 2 * (i / 2 + end (not s))) (sym (b .0)))
-    (ap (λ (i : ℕ). i / 2) (b .1)) (ap (λ (i : ℕ). i / 2) (b .2))
+-- a coarser neighbour
+module _ (t : Tree) (m : ℕ) (x : Pos) (a : Axis) (s : Bool) (n : ℕ) (r : reaches n s (x a) ≡ true)
+    (p : t (suc m) (parent x) ≡ true) (f : t (suc m) (parent (beside a s x)) ≡ false) where
+  plane : x a + end s ≡ 2 * (parent (beside a s x) a + end (not s))
+  plane =
+      plane-of s n (x a) r (λ e. clash (ap (t (suc m)) (same-parent a s x e) ∙ p) f)
+      ∙ ap (λ (i : ℕ). 2 * (i / 2 + end (not s))) (sym (beside-at a s x .0))
+
+  on1 : parent (beside a s x) (next a) ≡ x (next a) / 2
+  on1 = ap (λ (i : ℕ). i / 2) (beside-at a s x .1)
+
+  on2 : parent (beside a s x) (next (next a)) ≡ x (next (next a)) / 2
+  on2 = ap (λ (i : ℕ). i / 2) (beside-at a s x .2)
+
+  -- the turn of the half-pyramids
+  pub turn-local : turnsTo (faceCentre (face (suc m) (parent (beside a s x)) a (not s))) (face m x a s) ≡ turnAt (x (next a)) (x (next (next a)))
+  turn-local = turns-parity a m x (parent (beside a s x)) s plane on1 on2
+
+  found-local : Found (faceCentre (face (suc m) (parent (beside a s x)) a (not s))) (face m x a s)
+  found-local = centre-in a m x (parent (beside a s x)) s plane on1 on2
+
+-- rule 4.7: beside a leaf of a graded octree a coarser leaf is of the next level, and the centre of its face is one of the four corners
+pub coarse-found : (l : ℕ) (d : Pos) (t : Tree) → Closed l d t → (m : ℕ) (x : Pos) (a : Axis) (s : Bool) → IsLeaf l d t m x
+    → (n : ℕ) (z : Pos) → side l d t m x a s ≡ coarser n z → (n ≡ suc m) × Found (faceCentre (face n z a (not s))) (face m x a s)
+coarse-found l d t c m x a s h n z e =
+    go (reaches (counts l d m a) s (x a)) (t m (beside a s x)) (eqb m l) (t (suc m) (parent (beside a s x))) refl refl refl (sym (side-local l d t c m x a s h) ∙ e)
+  where
+    go : (r b i p : Bool) → reaches (counts l d m a) s (x a) ≡ r → eqb m l ≡ i → t (suc m) (parent (beside a s x)) ≡ p
+        → localSide r b (i || p) (coarser (suc m) (parent (beside a s x))) ≡ coarser n z → (n ≡ suc m) × Found (faceCentre (face n z a (not s))) (face m x a s)
+    go false b i p er ei ep q = let k : _≡_ {A = ℕ} 0 1 = cc in absurd (omega arith)
+    go true true i p er ei ep q = let k : _≡_ {A = ℕ} 0 1 = cc in absurd (omega arith)
+    go true false true p er ei ep q = let k : _≡_ {A = ℕ} 0 1 = cc in absurd (omega arith)
+    go true false false true er ei ep q = let k : _≡_ {A = ℕ} 0 1 = cc in absurd (omega arith)
+    go true false false false er ei ep q =
+        let en : n ≡ suc m = cc in
+        let ez : z ≡ parent (beside a s x) = cc in
+        let less : m < l = below in
+        (en, subst₂ (λ (k : ℕ) (y : Pos). Found (faceCentre (face k y a (not s))) (face m x a s)) (sym en) (sym ez) (found-local t m x a s (counts l d m a) er (under-split l d t c m x a s h less) ep))
+      where
+        below : m < l
+        below = go2 (decLe l m)
+          where
+            go2 : Dec (l ≤ m) → m < l
+            go2 (yes w) = let k : m ≡ l = omega (arith, h .fits) in clash (eq-eqb m l k) ei
+            go2 (no w) = omega arith

@@ -7,8 +7,8 @@ use native.Mathlib.Omega.{arith}
 use native.Mathlib.Decide.{decLe}
 use Rattle.lists.proofs.Bools.{and-left, both-and}
 use Rattle.space.specs.Space.{Pos}
-use Rattle.octants.specs.Oct.{Tree, Octree, Leaf, parent}
-use Rattle.octree_cells.specs.Leaf.{opened, own, IsLeaf}
+use Rattle.octants.specs.Oct.{Tree, Octree, Leaf, Graded, parent}
+use Rattle.octree_cells.specs.Leaf.{opened, own, IsLeaf, GradedOctree}
 use Rattle.octree_cells.proofs.Opened.{own-opened, opened-parent}
 use Rattle.octree_cells.proofs.LeafSome.{whole-of}
 use Rattle.octree_cells.proofs.Local.{own-local, own-root}
@@ -44,3 +44,10 @@ module _ (l : ℕ) (d : Pos) (t : Tree) (m : ℕ) (x : Pos) where
   -- in an octree they are one
   pub one-leaf : Octree l d t → Leaf l d t m x ↔ IsLeaf l d t m x
   one-leaf o = (is-leaf o, leaf-of)
+
+-- so an octree is graded by the one exactly when it is by the other
+pub one-grading : (l : ℕ) (d : Pos) (t : Tree) → (Octree l d t × Graded l d t) ↔ GradedOctree l d t
+one-grading l d t = (
+  λ h. record { octree = h .0; graded = λ m n x y p q. h .1 m n x y (one-leaf l d t m x (h .0) .1 p) (one-leaf l d t n y (h .0) .1 q) },
+  λ h. (h .octree, λ m n x y p q. h .graded m n x y (one-leaf l d t m x (h .octree) .0 p) (one-leaf l d t n y (h .octree) .0 q)),
+)

@@ -29,7 +29,7 @@ use Rattle.octree_cells.proofs.OneLeaf.{is-leaf}
 
 -- ---- ancestors
 
-up-zero : (y : Pos) → up 0 y ≡ y
+pub up-zero : (y : Pos) → up 0 y ≡ y
 up-zero y = fun-ext (λ a. ap (λ (v : ℕ). y a / v) (pow-zero 2) ∙ div-one (y a))
 
 up-up : (j k : ℕ) (y : Pos) → up j (up k y) ≡ up (k + j) y

@@ -1,6 +1,7 @@
 -- What stands beside a leaf of a graded octree, told by two splits; and where a coarser face's centre is.
-use mathlib.Core.Path.{_≡_, refl, ap, ap₂, sym, _∙_}
-use mathlib.Core.Bool.{Bool, true, false, cond, not, _&&_}
+use mathlib.Core.Path.{_≡_, refl, ap, ap₂, sym, _∙_, fun-ext}
+use mathlib.Core.Logic.{_⊎_, inl, inr}
+use mathlib.Core.Bool.{Bool, true, false, cond, not, _&&_, _||_}
 use Prim.Native.Nat.{ℕ, zero, suc, _+_, _*_, _-_, _/_, _%_, _≤_, _<_}
 use native.Mathlib.Omega.{arith}
 use native.Mathlib.Decide.{decLe}
@@ -11,13 +12,13 @@ use borrow.Author.Tests.{eqb-true, eq-eqb, ne-eqb, ltb-true}
 use Rattle.space.specs.Space.{Axis, ax, ay, az, Pos, next, frame}
 use Rattle.octants.specs.Oct.{Tree, counts, width, parent, In, Closed}
 use Rattle.octants.proofs.Axis1.{close-meet, Close}
-use Rattle.lists.proofs.Bools.{both-and, bool-ext, clash}
+use Rattle.lists.proofs.Bools.{and-both, both-and, bool-ext, clash}
 use Rattle.octants.proofs.Least.{closed-octree, parent-inside}
-use Rattle.octree_cells.specs.Cells.{Cover, none, leaf, descent, ofLevel, up, split, equal, coarser, side, coveredBy, reaches, beside, stepped, face, faceCentre, corner, end, same, turnsTo}
+use Rattle.octree_cells.specs.Cells.{Cover, none, leaf, descent, ofLevel, up, split, equal, coarser, side, coveredBy, reaches, beside, stepped, Face, face, faceCentre, corner, end, same, turned, turnsTo}
 use Rattle.octree_cells.specs.Leaf.{own, opened}
 use Rattle.octree_cells.proofs.Opened.{opened-parent, up-parent}
 use Rattle.octree_cells.proofs.Local.{opened-under}
-use Rattle.octree_cells.specs.Leaf.{central, turnAt}
+use Rattle.octree_cells.specs.Leaf.{central, turnAt, Found}
 
 -- under split ones, an unsplit parent is what covers
 descent-parent : (t : Tree) (m : ℕ) (y : Pos) (k : ℕ) → opened t (suc m) (parent y) k ≡ true → t (suc m) (parent y) ≡ false
@@ -188,6 +189,50 @@ centre-coords a m z s = record {
     hi : Coords a (corner (suc m) z (frame a (end s) 1 1)) ((z a + end s) * width (suc m)) ((z (next a) + 1) * width (suc m)) ((z (next (next a)) + 1) * width (suc m))
     hi = corner-coords a (suc m) z (end s) 1 1
 
+-- one corner of an octant is the centre of its parent along an axis
+one-central : (j : ℕ) → ((central 0 j ≡ true) × (central 1 j ≡ false)) ⊎ ((central 0 j ≡ false) × (central 1 j ≡ true))
+one-central j = go (decLe (j % 2) 0)
+  where
+    go : Dec (j % 2 ≤ 0) → ((central 0 j ≡ true) × (central 1 j ≡ false)) ⊎ ((central 0 j ≡ false) × (central 1 j ≡ true))
+    go (yes e) = inr (ne-eqb (j % 2 + 0) 1 (λ q. omega arith), eq-eqb (j % 2 + 1) 1 (omega arith))
+    go (no e) = inl (eq-eqb (j % 2 + 0) 1 (omega arith), ne-eqb (j % 2 + 1) 1 (λ q. omega arith))
+
+-- so one of four is, along two axes
+corner-central-some : (j k : ℕ)
+    → ((central 0 j && central 0 k) || (central 1 j && central 0 k) || (central 1 j && central 1 k) || (central 0 j && central 1 k)) ≡ true
+corner-central-some j k = go (one-central j) (one-central k)
+  where
+    go : ((central 0 j ≡ true) × (central 1 j ≡ false)) ⊎ ((central 0 j ≡ false) × (central 1 j ≡ true))
+        → ((central 0 k ≡ true) × (central 1 k ≡ false)) ⊎ ((central 0 k ≡ false) × (central 1 k ≡ true))
+        → ((central 0 j && central 0 k) || (central 1 j && central 0 k) || (central 1 j && central 1 k) || (central 0 j && central 1 k)) ≡ true
+    go (inl p) (inl q) = rw (p .0, q .0) refl
+    go (inl p) (inr q) = rw (p .0, p .1, q .0, q .1) refl
+    go (inr p) (inl q) = rw (p .0, p .1, q .0) refl
+    go (inr p) (inr q) = rw (p .0, p .1, q .0, q .1) refl
+
+same-is : (p q : Pos) → same p q ≡ true → p ≡ q
+same-is p q e = fun-ext go
+  where
+    r : (eqb (p ax) (q ax) && eqb (p ay) (q ay) ≡ true) × (eqb (p az) (q az) ≡ true)
+    r = and-both (eqb (p ax) (q ax) && eqb (p ay) (q ay)) (eqb (p az) (q az)) e
+
+    go : (a : Axis) → p a ≡ q a
+    go ax = eqb-true (p ax) (q ax) (and-both (eqb (p ax) (q ax)) (eqb (p ay) (q ay)) (r .0) .0)
+    go ay = eqb-true (p ay) (q ay) (and-both (eqb (p ax) (q ax)) (eqb (p ay) (q ay)) (r .0) .1)
+    go az = eqb-true (p az) (q az) (r .1)
+
+-- a search among four that finds something ends at it
+walked-from : (v : Pos) (f : Face) → (same (f .p0) v || same (f .p1) v || same (f .p2) v || same (f .p3) v) ≡ true → turned (turnsTo v f) f .p0 ≡ v
+walked-from v f = go (same (f .p0) v) (same (f .p1) v) (same (f .p2) v) (same (f .p3) v) (same-is (f .p0) v) (same-is (f .p1) v) (same-is (f .p2) v) (same-is (f .p3) v)
+  where
+    go : (b0 b1 b2 b3 : Bool) → (b0 ≡ true → f .p0 ≡ v) → (b1 ≡ true → f .p1 ≡ v) → (b2 ≡ true → f .p2 ≡ v) → (b3 ≡ true → f .p3 ≡ v)
+        → (b0 || b1 || b2 || b3) ≡ true → turned (cond b0 0 (cond b1 1 (cond b2 2 (cond b3 3 0)))) f .p0 ≡ v
+    go true b1 b2 b3 h0 h1 h2 h3 e = h0 refl
+    go false true b2 b3 h0 h1 h2 h3 e = h1 refl
+    go false false true b3 h0 h1 h2 h3 e = h2 refl
+    go false false false true h0 h1 h2 h3 e = h3 refl
+    go false false false false h0 h1 h2 h3 e = clash e refl
+
 module _ (a : Axis) (m : ℕ) (x z : Pos) (s : Bool)
     (plane : x a + end s ≡ 2 * (z a + end (not s))) (on1 : z (next a) ≡ x (next a) / 2) (on2 : z (next (next a)) ≡ x (next (next a)) / 2) where
   corner-same : (f g : ℕ) → f ≤ 1 → g ≤ 1
@@ -213,3 +258,18 @@ module _ (a : Axis) (m : ℕ) (x z : Pos) (s : Bool)
         corner-same 1 1 (omega arith) (omega arith),
         corner-same 0 1 (omega arith) (omega arith),
       )
+
+  -- the search for the centre of the coarse face finds it
+  pub centre-in : Found (faceCentre (face (suc m) z a (not s))) (face m x a s)
+  centre-in = record { corner = found; walked = walked-from (faceCentre (face (suc m) z a (not s))) (face m x a s) found }
+    where
+      found : (same (face m x a s .p0) (faceCentre (face (suc m) z a (not s))) || same (face m x a s .p1) (faceCentre (face (suc m) z a (not s)))
+          || same (face m x a s .p2) (faceCentre (face (suc m) z a (not s))) || same (face m x a s .p3) (faceCentre (face (suc m) z a (not s)))) ≡ true
+      found =
+          rw (
+            corner-same 0 0 (omega arith) (omega arith),
+            corner-same 1 0 (omega arith) (omega arith),
+            corner-same 1 1 (omega arith) (omega arith),
+            corner-same 0 1 (omega arith) (omega arith),
+          )
+          (corner-central-some (x (next a)) (x (next (next a))))

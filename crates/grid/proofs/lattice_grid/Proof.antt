@@ -47,10 +47,10 @@ mul-need : tie.Need-mul-need
 mul-need c = omega (arith, c .before .before .count .ensures .cells-few)
 
 slice-relend-prefix-zero64 : tie.Need-slice-relend-prefix-zero64
-slice-relend-prefix-zero64 c = let lc = sym (c .before .lacks-cells .ensures) ∙ c .if1 .left in cells-room _ _ _ lc .1
+slice-relend-prefix-zero64 c = let lc = sym (c .before .lacks-cells .ensures) ∙ c .if1 .left in omega (arith, cells-room _ _ _ lc .1)
 
 slice-aggregate-zero64 : tie.Need-slice-aggregate-zero64
-slice-aggregate-zero64 c = let lc = sym (c .before .before .lacks-cells .ensures) ∙ c .before .if1 .left in sym (length-take-le _ _ (cells-room _ _ _ lc .1))
+slice-aggregate-zero64 c = let lc = sym (c .before .before .lacks-cells .ensures) ∙ c .before .if1 .left in sym (length-take-le _ _ (omega (arith, cells-room _ _ _ lc .1)))
 
 zero64-requires : tie.Need-zero64-requires
 zero64-requires c κs = search needs
