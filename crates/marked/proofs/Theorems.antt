@@ -19,7 +19,7 @@ use Rattle.lists.proofs.Lent.{as-new}
 use Rattle.lists.proofs.Listing.{map-at}
 use Rattle.lists.proofs.Appearing.{place-head, place-tail, place-le, number-at, number-next, same-number}
 use Rattle.lists.proofs.Running.{run-same}
-use Rattle.lists.proofs.Passing.{spread-those, spread-length, spread-at}
+use Rattle.lists.proofs.Passing.{those-pass, those-all, those-rise, spread-those, spread-length, spread-at}
 use Rattle.mesh.specs.Mesh.{cellsOf, cellOf, inOrder, exchanged}
 use Rattle.mesh.specs.declared.Cell.{Cell}
 use Rattle.volume.specs.Volume.{verdictAt}
@@ -172,6 +172,10 @@ module _ (mark : ℕ → Bool) (least : Float) (P C : List ℕ) where
 
   -- the mesh in the tables p and q
   pub record Whole (points cells dropped : ℕ) (p q : List ℕ) : Type 0 where
+    -- the list of the cells that stay has these and no other, ascending
+    pub kept : (k : ℕ) → k < cells → (getD staying k 0 < cellsOf C) × StayingAt (getD staying k 0)
+    pub every : (i : ℕ) → i < cellsOf C → StayingAt i → (k : ℕ) × (k < cells) × (getD staying k 0 ≡ i)
+    pub rising : (j k : ℕ) → j < k → k < cells → getD staying j 0 < getD staying k 0
     -- cell k is the k-th that stays: each vertex names a point of the mesh, with the bits of the point that it named
     pub there : (k a : ℕ) → k < cells → a < 4 → getD q (4 * k + a) 0 < points
     pub bits : (k a b : ℕ) → k < cells → a < 4 → b < 3
@@ -186,15 +190,12 @@ module _ (mark : ℕ → Bool) (least : Float) (P C : List ℕ) where
     pub drops : Many DroppedAt (cellsOf C) dropped
     pub marks : Many MarkedAt (cellsOf C) (cells + dropped)
 
-  many-stay : Many StayingAt (cellsOf C) (length staying)
-  many-stay =
-      many-those (stays mark least P C) StayingAt
-      (λ i.
+  stays-means : (i : ℕ) → (stays mark least P C i ≡ true) ↔ StayingAt i
+  stays-means i =
       let d : Bool = not (isDropped (verdictAt P C i least)) in (
         λ t. (and-left (mark i) d t, not-dropped (verdictAt P C i least) (and-right (mark i) d t)),
         λ s. both-and (mark i) d (s .0) (stays-not (verdictAt P C i least) (s .1)),
-      ))
-      (cellsOf C)
+      )
 
   abbrev lost : ℕ
   lost = droppedCount mark least P C (cellsOf C)
@@ -275,6 +276,13 @@ module _ (mark : ℕ → Bool) (least : Float) (P C : List ℕ) where
     -- an answer's tables hold the mesh
     pub kept-whole : Whole points cells dropped p′ q′
     kept-whole = record {
+      kept = λ k h.
+          let t = those-pass (stays mark least P C) (cellsOf C) k (omega (arith, cells-is)) in
+          (t .0, stays-means (getD staying k 0) .0 (t .1));
+      every = λ i h s.
+          let t = those-all (stays mark least P C) (cellsOf C) i h (stays-means i .1 s) in
+          (t .0, omega (arith, t .1, cells-is), t .2);
+      rising = λ j k a h. those-rise (stays mark least P C) (cellsOf C) j k a (omega (arith, cells-is));
       there = λ k a hk ha.
           let i : 4 * k + a < 4 * cells = omega arith in
           omega (arith, cell-at (4 * k + a) i, number-below final (4 * k + a) (inside i), points-is);
@@ -290,7 +298,7 @@ module _ (mark : ℕ → Bool) (least : Float) (P C : List ℕ) where
       in-order = λ i v hi h.
           let f = numbers-first final i v (inside hi) (omega (arith, cell-at i hi)) in
           (f .0, f .1, cell-at (f .0) (omega (arith, f .1)) ∙ f .2);
-      stay = subst (Many StayingAt (cellsOf C)) (sym cells-is) many-stay;
+      stay = subst (Many StayingAt (cellsOf C)) (sym cells-is) (many-those (stays mark least P C) StayingAt stays-means (cellsOf C));
       drops = subst (Many DroppedAt (cellsOf C)) (sym dropped-same) many-drop;
       marks =
           let all : length staying + lost ≡ cells + dropped = omega (arith, cells-is, dropped-same) in

@@ -22,7 +22,10 @@ impl Weighed {
 
     fn words(&self) -> Vec<u32> {
         let coordinates = self.points.iter().flat_map(|point| point.bits());
-        [self.least.to_bits()].into_iter().chain(coordinates).collect()
+        [self.least.to_bits()]
+            .into_iter()
+            .chain(coordinates)
+            .collect()
     }
 
     /// The verdict and the bits of the volume; any NaN counts as 7FC00000.
