@@ -1,7 +1,6 @@
 // Replays a fixed sample of calls whose answers the lifted Rust gave: stdin is the tape (crate `tape`), stdout what is printed where
 // nothing differs. Both are made by `oracle/sample`.
 use libc::STDIN_FILENO;
-use libc::STDOUT_FILENO;
 use plan::Bounds;
 use sporeferry::Answer;
 use sporeferry::PlanAnswer;
@@ -17,10 +16,12 @@ use sporeferry::sf_refine;
 use sporeferry::sf_representatives;
 use sporeferry::sf_write_mesh;
 use sporeferry::sf_write_vtk;
+use tape::BYTES;
 use tape::Inputs;
 use tape::Lengths;
 use tape::ROOM;
 use tape::Section;
+use tape::tell;
 
 fn float(tape: &[u32], at: usize, i: usize) -> f32 {
     float32::to_f32(tape::word(tape, at, i))
@@ -162,23 +163,6 @@ fn replay_section(tape: &[u32], bytes: &[u8], start: usize, calls: u32) -> Tally
     }
 }
 
-fn text(s: &[u8]) {
-    io::write_all(STDOUT_FILENO, s);
-}
-
-fn number(n: u64) {
-    io::print_decimal(STDOUT_FILENO, n);
-}
-
-fn tell(name: &[u8], calls: u64, differences: u64) {
-    text(name);
-    text(b": ");
-    number(calls);
-    text(b" calls, ");
-    number(differences);
-    text(b" differences\n");
-}
-
 // Replays the sections of a tape, whose first word says how many they are.
 fn replay_all(tape: &[u32], bytes: &[u8]) {
     let sections = tape::word(tape, 0, 0);
@@ -200,15 +184,8 @@ fn replay_all(tape: &[u32], bytes: &[u8]) {
     tell(b"all", calls, differences);
 }
 
-// The tape in words.
-fn unpacked(bytes: &[u8; 262_144]) -> [u32; 65_536] {
-    let mut tape = [0u32; 65_536];
-    words::get_words(bytes, 0, false, &mut tape);
-    tape
-}
-
 fn main() {
-    let mut bytes = [0u8; 262_144];
+    let mut bytes = [0u8; BYTES];
     io::read_full(STDIN_FILENO, &mut bytes);
-    replay_all(&unpacked(&bytes), &bytes);
+    replay_all(&tape::unpacked(&bytes), &bytes);
 }

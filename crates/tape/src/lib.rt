@@ -8,18 +8,35 @@
 // Bytes stand four to a word, the low byte first, and at least one byte of none behind them.
 ghost use mathlib.Core.Path.{_≡_};
 ghost use Prim.Native.Nat.{_+_, _*_, _≤_, min};
+ghost use mathlib.Core.Bool.{false};
 ghost use lib.ListN.{length, getD, take, drop};
+ghost use Rattle.words.specs.Words.{wordsAt};
 ghost use Rattle.tape.specs.Call.{LengthsAt, onwardFrom, SectionAt, InputsAt};
 
 mod digest;
+mod telling;
 
 pub use digest::bytes;
 pub use digest::longs;
 pub use digest::number;
 pub use digest::words;
+pub use telling::tell;
 
 // How many entries a table has at most that is written.
 pub const ROOM: usize = 16_384;
+
+// How many bytes a tape has at most.
+pub const BYTES: usize = 262_144;
+
+// The tape in words.
+pub fn unpacked(bytes: &[u8; BYTES]) -> [u32; 65_536]
+    ensures { λ r. ⌜ 65536 ≡ length r ⌝ }
+    ensures { λ r. ⌜ r ≡ wordsAt false (now (bytes .entry)) 0 65536 ⌝ }
+{
+    let mut tape = [0u32; 65_536];
+    words::get_words(bytes, 0, false, &mut tape);
+    tape
+}
 
 // The lengths of the tables that a call writes.
 pub struct Lengths {

@@ -1,8 +1,9 @@
-//! `sample`: writes a fixed sample of calls and of the Rust's answers for crates/replay, and one of
-//! cells and the Rust's verdicts for crates/verdicts, which go through them with no Rust at hand.
-//! The stdin of a program is what is asked, its stdout what must be printed.
+//! `sample`: writes fixed samples of the Rust's answers, which programs go through with no Rust at
+//! hand: calls for crates/replay, cells with their verdicts for crates/verdicts, octrees with
+//! questions for crates/lookup_run. A program's stdin is what is asked, its stdout what it must print.
 
 mod choose;
+mod lookups;
 mod record;
 mod tape;
 mod verdicts;
@@ -24,7 +25,9 @@ fn write(crates: &Path) -> std::io::Result<()> {
     put(&crates.join("replay"), &tape.bytes(), &tape.text())?;
     let (words, verdicts) = verdicts::all(SEED);
     let bytes: Vec<u8> = words.into_iter().flat_map(u32::to_le_bytes).collect();
-    put(&crates.join("verdicts"), &bytes, &verdicts)
+    put(&crates.join("verdicts"), &bytes, &verdicts)?;
+    let lookups = lookups::all(SEED);
+    put(&crates.join("lookup_run"), &lookups.bytes(), &lookups.text())
 }
 
 fn main() -> ExitCode {

@@ -1,6 +1,6 @@
 //! The tape of calls, words of 32 bits, and the lines that its replay must print.
 
-use crate::record::{packed, Record, Values};
+use crate::record::{packed, Record, Tables, Values};
 use oracle::calls::Outcome;
 use std::collections::BTreeMap;
 
@@ -24,21 +24,46 @@ const MOST_ENTRIES: usize = 16_384;
 /// The bytes of tape that the program has room for.
 const MOST_BYTES: usize = 262_144;
 
-/// The calls of one step that are answered with one number.
+/// Calls that a program tells of in one line.
 #[derive(Default)]
-struct Section {
-    calls: u32,
+pub struct Section {
+    pub calls: u32,
     words: Vec<u32>,
 }
 
-/// Sections by the step's number on the tape and by the number answered.
+impl Section {
+    /// A call: the digest of what it must answer, the step's number, its numbers and inputs.
+    pub fn push(&mut self, digest: u32, step: usize, tables: &Tables) {
+        self.calls += 1;
+        self.words.extend([digest, step as u32]);
+        self.words.extend(tables.plan);
+        let lengths = tables.lengths();
+        self.words.extend(lengths.iter().map(|len| *len as u32));
+        self.words.extend(tables.contents());
+    }
+}
+
+/// The sections of a tape, each under its name, as the programs read them.
+pub fn bytes<'a>(sections: impl ExactSizeIterator<Item = (String, &'a Section)>) -> Vec<u8> {
+    let mut words = vec![sections.len() as u32];
+    for (name, section) in sections {
+        words.extend([section.calls, name.len() as u32]);
+        words.extend(packed(name.as_bytes()));
+        words.extend(&section.words);
+    }
+    let bytes: Vec<u8> = words.into_iter().flat_map(u32::to_le_bytes).collect();
+    assert!(bytes.len() <= MOST_BYTES, "a tape of {}", bytes.len());
+    bytes
+}
+
+/// The calls of every step: sections by its number on the tape and by the number answered.
 #[derive(Default)]
 pub struct Tape {
     sections: BTreeMap<(usize, u32), Section>,
 }
 
 /// A digest of what a call answered and left, as the program takes it: a polynomial modulo a prime.
-fn digest(values: &[u64]) -> u32 {
+pub fn digest(values: &[u64]) -> u32 {
     const MODULUS: u64 = 4_294_967_291;
     const FACTOR: u64 = 2_654_435_761;
     let mixed = |digest: u64, value: &u64| (digest * FACTOR + value % MODULUS) % MODULUS;
@@ -55,7 +80,7 @@ impl Tape {
     pub fn offer<R: Record>(&mut self, call: &R, most: u32) {
         let mut call = call.clone();
         call.refill();
-        let (lengths, contents) = (call.tables().lengths(), call.tables().contents());
+        let lengths = call.tables().lengths();
         if lengths.iter().any(|len| *len > MOST_ENTRIES) {
             return;
         }
@@ -70,25 +95,12 @@ impl Tape {
         if section.calls < most {
             let tables = call.tables();
             let digest = digest(&[outcome.values(), tables.results()].concat());
-            section.calls += 1;
-            section.words.extend([digest, step as u32]);
-            section.words.extend(tables.plan);
-            section.words.extend(lengths.iter().map(|len| *len as u32));
-            section.words.extend(contents);
+            section.push(digest, step, &tables);
         }
     }
 
     pub fn bytes(&self) -> Vec<u8> {
-        let mut words = vec![self.sections.len() as u32];
-        for (key, section) in &self.sections {
-            let name = name(key);
-            words.extend([section.calls, name.len() as u32]);
-            words.extend(packed(name.as_bytes()));
-            words.extend(&section.words);
-        }
-        let bytes: Vec<u8> = words.into_iter().flat_map(u32::to_le_bytes).collect();
-        assert!(bytes.len() <= MOST_BYTES, "a tape of {}", bytes.len());
-        bytes
+        bytes(self.sections.iter().map(|(key, s)| (name(key), s)))
     }
 
     /// What the program prints where every call gives what the Rust gave.

@@ -17,6 +17,17 @@ pub fn refined_octree(oracle: &MeshOracle, tree: Tree) -> Tree {
 }
 
 impl Tree {
+    /// Over any roots, nothing subdivided: a plan has at least six along an axis.
+    pub fn over(layout: Layout) -> Tree {
+        Tree(Octree {
+            origin: Vector::splat(0.0),
+            half: 1.0,
+            levels: layout.levels,
+            dims: layout.dims,
+            subdivided: HashMap::default(),
+        })
+    }
+
     pub fn origin(&self) -> Vector {
         self.0.origin
     }

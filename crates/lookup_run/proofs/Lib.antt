@@ -1,0 +1,3 @@
+-- The laws of the program.
+pub mod Roots
+pub mod Counter
