@@ -1,13 +1,14 @@
 -- Laws of a count in a file. Assumes nothing.
 use mathlib.Core.Path.{_≡_, refl, sym, ap, _∙_}
 use mathlib.Core.Logic.{_≢_, _⊎_, inl, inr}
-use mathlib.Core.Bool.{true, false}
+use mathlib.Core.Bool.{Bool, true, false, cond}
 use mathlib.Core.List.{List, [], _∷_, _++_, append-nil}
 use Prim.Native.Nat.{ℕ, zero, suc, _+_, _-_, _*_, _/_, _%_, _^_, _≤_, _<_}
 use native.Mathlib.Nat.{add-zero, not-suc-le-zero, pow-le-pow-right}
 use native.Mathlib.Numerals.{add-one}
 use native.Mathlib.Omega.{arith}
 use borrow.Author.Tests.{lt-ltb, le-ltb, le-leb, lt-leb, ne-eqb}
+use lib.Dec.{eqb}
 use lib.ListN.{length, getD, drop, List·getD-eq-default}
 use lib.Seq.{drop-cons, getD-drop, append-snoc}
 use Rattle.lists.proofs.Cases.{ltOr, eqOr}
@@ -194,6 +195,32 @@ count-found b at v next e = by-tests (ltOr at (length b)) (ltOr (getD b at 0) 48
             go : (48 < getD b at 0) ⊎ (getD b at 0 ≤ 48) → 48 < getD b at 0
             go (inl i) = i
             go (inr i) = absurd (d (omega arith))
+
+-- a count that the file ends before
+more-reads : (k j : ℕ) (b : List ℕ) (at x : ℕ) → moreAt k b at x ≡ Stopped j → ⊥
+unfolding moreAt
+more-reads zero j b at x e = never-read j x at (sym e)
+more-reads (suc k) j b at x e = by-byte (more-reads k j b (suc at) (10 * x + (getD b at 0 - 48))) (isDigit (getD b at 0)) e
+  where
+    by-byte : {c : Counted} → (c ≡ Stopped j → ⊥) → (t : Bool) → cond t c (Read x at) ≡ Stopped j → ⊥
+    by-byte go true f = go f
+    by-byte go false f = never-read j x at (sym f)
+
+pub count-cut : (b : List ℕ) (at : ℕ) → countAt b at ≡ Stopped 11 → length b ≤ at
+unfolding countAt
+count-cut b at e = by-end (ltOr at (length b))
+  where
+    other : _≡_ {A = Counted} (Stopped 14) (Stopped 11) → ⊥
+    other f = let z : _≡_ {A = ℕ} 14 11 = cc in omega arith
+
+    by-byte : (s t : Bool) → cond s (cond t (Read 0 (suc at)) (moreAt 9 b (suc at) (getD b at 0 - 48))) (Stopped 14) ≡ Stopped 11 → ⊥
+    by-byte true true f = never-read 11 0 (suc at) (sym f)
+    by-byte true false f = more-reads 9 11 b (suc at) (getD b at 0 - 48) f
+    by-byte false t f = other f
+
+    by-end : (at < length b) ⊎ (length b ≤ at) → length b ≤ at
+    by-end (inl l) = absurd (by-byte (isDigit (getD b at 0)) (eqb (getD b at 0) 48) (rw (lt-ltb at (length b) l) at e))
+    by-end (inr l) = l
 
 -- ---- the digits of a count read as it
 

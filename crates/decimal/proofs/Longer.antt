@@ -24,6 +24,9 @@ pub record Leads (b c : List ℕ) : Type 0 where
 pub leads : (b r : List ℕ) → Leads b (b ++ r)
 leads b r = record { less = omega (arith, length-append b r); bytes = λ i h. List·getD-append b r 0 i h }
 
+pub itself : (b : List ℕ) → Leads b b
+itself b = record { less = omega arith; bytes = λ i h. refl }
+
 -- ---- what the same part of a longer file is
 
 -- a part stops with 11, or with 14 and then in the longer file too

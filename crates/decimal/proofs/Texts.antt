@@ -42,6 +42,9 @@ text-done t b i q h = rw (lib.ListN.drop-of-length-le t h)
 pub never-at : (k next : ℕ) → _≡_ {A = Place} (Stopped k) (At next) → ⊥
 never-at k next d = let z : _≡_ {A = ℕ} 0 1 = cc in omega arith
 
+pub other-stop : {j k : ℕ} → (j ≡ k → ⊥) → _≡_ {A = Place} (Stopped j) (Stopped k) → ⊥
+other-stop d e = d (cc)
+
 -- the places of a text that is there
 pub record Here (t b : List ℕ) (at next : ℕ) : Type 0 where
   pub long : next ≡ at + length t
@@ -58,6 +61,25 @@ text-found (x ∷ t) b at next e = by-tests (text-found t b (suc at) next) (ltOr
         record { long = omega (arith, r .long); bytes = rw (drop-cons b at 0 l, d) (ap (λ (s : List ℕ). x ∷ s) (r .bytes)) }
     by-tests go (inl l) (inr d) = absurd (never-at 14 next (rw (lt-ltb at (length b) l, ne-eqb _ _ d) at e))
     by-tests go (inr l) d = absurd (never-at 11 next (rw (le-ltb at (length b) l) at e))
+
+-- a text that the file ends in: so much of it is there, and this is missing
+pub record Missing (t s : List ℕ) : Type 0 where
+  pub rest : List ℕ
+  pub whole : t ≡ s ++ rest
+
+pub text-cut : (t b : List ℕ) (at : ℕ) → textAt t b at ≡ Stopped 11 → Missing t (drop at b)
+unfolding textAt
+text-cut [] b at e = absurd (never-at 11 at (sym e))
+text-cut (x ∷ t) b at e = by-tests (text-cut t b (suc at)) (ltOr at (length b)) (eqOr (getD b at 0) x)
+  where
+    by-tests : (textAt t b (suc at) ≡ Stopped 11 → Missing t (drop (suc at) b)) → (at < length b) ⊎ (length b ≤ at) → (getD b at 0 ≡ x) ⊎ (getD b at 0 ≢ x)
+        → Missing (x ∷ t) (drop at b)
+    by-tests go (inl l) (inl d) =
+        let r : Missing t (drop (suc at) b) = go (rw (lt-ltb at (length b) l, eq-eqb _ _ d) at e) in
+        let f : x ∷ drop (suc at) b ≡ drop at b = ap (λ (y : ℕ). y ∷ drop (suc at) b) (sym d) ∙ sym (drop-cons b at 0 l) in
+        record { rest = r .rest; whole = ap (λ (s : List ℕ). x ∷ s) (r .whole) ∙ ap (λ (s : List ℕ). s ++ r .rest) f }
+    by-tests go (inl l) (inr d) = absurd (other-stop (λ q. omega arith) (rw (lt-ltb at (length b) l, ne-eqb _ _ d) at e))
+    by-tests go (inr l) d = record { rest = x ∷ t; whole = ap (λ (s : List ℕ). s ++ (x ∷ t)) (sym (lib.ListN.drop-of-length-le b l)) }
 
 -- what is left behind bytes that are there
 pub drop-on : (t rest b : List ℕ) (at : ℕ) → drop at b ≡ t ++ rest → drop (at + length t) b ≡ rest
@@ -154,17 +176,24 @@ module _ (n : ℕ) (b : List ℕ) (at : ℕ) where
     unfolding noneAt
     number-over next d l = sym (number-high h ∙ went (textAt (digits (n / 10)) b at) Stopped (noneAt b) next (sym e ∙ d) ∙ rw (lt-ltb next (length b) l))
 
-  pub number-found : (next : ℕ) → numberAt n b at ≡ At next → Here (digits n) b at next
+  -- digits that are there are ten at most
+  pub number-small : (next : ℕ) → numberAt n b at ≡ At next → n < 10000000000
   unfolding noneAt
-  number-found next e = by-size (ltOr n 10000000000)
+  number-small next e = by-size (ltOr n 10000000000)
     where
-      by-size : (n < 10000000000) ⊎ (10000000000 ≤ n) → Here (digits n) b at next
-      by-size (inl l) = text-found (digits n) b at next (sym (number-low l) ∙ e)
-      by-size (inr l) = either-way (textAt (digits (n / 10)) b at) Stopped (noneAt b) (λ r. r ≡ At next → Here (digits n) b at next) (λ k d f. absurd (never-at k next f)) (λ q d f. absurd (none (ltb q (length b)) f)) (sym (number-high l) ∙ e)
-        where
-          none : (t : Bool) → cond t (Stopped 14) (Stopped 11) ≡ At next → ⊥
-          none true f = never-at 14 next f
-          none false f = never-at 11 next f
+      none : (t : Bool) → cond t (Stopped 14) (Stopped 11) ≡ At next → ⊥
+      none true f = never-at 14 next f
+      none false f = never-at 11 next f
+
+      by-size : (n < 10000000000) ⊎ (10000000000 ≤ n) → n < 10000000000
+      by-size (inl l) = l
+      by-size (inr l) =
+          absurd
+          (either-way (textAt (digits (n / 10)) b at) Stopped (noneAt b) (λ r. r ≡ At next → ⊥) (λ k d. never-at k next) (λ q d. none (ltb q (length b)))
+          (sym (number-high l) ∙ e))
+
+  pub number-found : (next : ℕ) → numberAt n b at ≡ At next → Here (digits n) b at next
+  number-found next e = text-found (digits n) b at next (sym (number-low (number-small next e)) ∙ e)
 
 -- ---- a text stored in front of a table
 

@@ -70,21 +70,21 @@ module _ (b c : List ℕ) (g : Leads b c) (more : length b < length c) where
       by-end (inl l) = rw (lt-ltb (length b) (at + size) l) (inl refl)
       by-end (inr l) = rw (le-ltb (length b) (at + size) l, le-ltb (length c) (at + size) (omega arith)) refl
 
-  line-stays : (t : List ℕ) (size at : ℕ) → Stays (lineAt t size b at) (lineAt t size c at)
+  pub line-stays : (t : List ℕ) (size at : ℕ) → Stays (lineAt t size b at) (lineAt t size c at)
   unfolding lineAt
   line-stays t size at = next-stays b c g _ _ _ _ (text-stays b c g t at) (λ q e. block-stays size q)
 
-  section-stays : (before : List ℕ) (n : ℕ) (after : List ℕ) (size at : ℕ) → Stays (sectionAt before n after size b at) (sectionAt before n after size c at)
+  pub section-stays : (before : List ℕ) (n : ℕ) (after : List ℕ) (size at : ℕ) → Stays (sectionAt before n after size b at) (sectionAt before n after size c at)
   unfolding sectionAt
   section-stays before n after size at =
       next-stays b c g _ _ _ _ (text-stays b c g before at) (λ q e. next-stays b c g _ _ _ _ (number-stays b c g n q) (λ z f. line-stays after size z))
 
-  counted-stays : (t : List ℕ) (at : ℕ) → StaysCount (length b) (countedAt t b at) (countedAt t c at)
+  pub counted-stays : (t : List ℕ) (at : ℕ) → StaysCount (length b) (countedAt t b at) (countedAt t c at)
   unfolding countedAt StaysCount Halts
   counted-stays t at =
       place-on counted.Stopped (StaysCount (length b)) (λ a. inl refl) (inr (refl, refl)) _ _ _ _ (text-stays b c g t at) (λ q e. count-stays b c g q)
 
-  head-stays : StaysCount (length b) (headOf b) (headOf c)
+  pub head-stays : StaysCount (length b) (headOf b) (headOf c)
   unfolding headOf StaysCount Halts
   head-stays =
       place-on counted.Stopped (StaysCount (length b)) (λ a. inl refl) (inr (refl, refl)) _ _ _ _ (text-stays b c g versionLine 0)
@@ -182,8 +182,14 @@ pub record Departs (b : List ℕ) : Type 0 where
   pub before : locatedOf (take at b) ≡ located.Stopped 11
   pub behind : (r : List ℕ) → locatedOf (take (suc at) b ++ r) ≡ located.Stopped 14
 
+pub stop-is : {j k : ℕ} → _≡_ {A = Located} (located.Stopped j) (located.Stopped k) → j ≡ k
+stop-is e = cc
+
 never : {j k : ℕ} → (j ≡ k → ⊥) → _≡_ {A = Located} (located.Stopped j) (located.Stopped k) → ⊥
-never d e = d (cc)
+never d e = d (stop-is e)
+
+pub found-never : {l : Layout} {k : ℕ} → located.Found l ≡ located.Stopped k → ⊥
+found-never e = let z : _≡_ {A = ℕ} 0 1 = cc in omega arith
 
 empty-cut : locatedOf [] ≡ located.Stopped 11
 unfolding locatedOf headOf versionLine textAt onPlace onCount textOf
@@ -228,9 +234,6 @@ module _ (b : List ℕ) (x : ℕ) (r : List ℕ) where
 
   pub cut-front : locatedOf (b ++ (x ∷ r)) ≡ located.Stopped 11 → locatedOf b ≡ located.Stopped 11
   cut-front e = by-whole e (never (λ q. omega arith)) (never (λ q. omega arith))
-
-  found-never : {l : Layout} {k : ℕ} → located.Found l ≡ located.Stopped k → ⊥
-  found-never e = let z : _≡_ {A = ℕ} 0 1 = cc in omega arith
 
   pub found-front : (l : Layout) → locatedOf (b ++ (x ∷ r)) ≡ located.Found l → locatedOf b ≡ located.Stopped 11
   found-front l e = by-whole e found-never found-never

@@ -3,3 +3,4 @@ pub mod Parts
 pub mod Sound
 pub mod There
 pub mod Front
+pub mod Cut

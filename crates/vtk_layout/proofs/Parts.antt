@@ -13,7 +13,7 @@ use lib.ListN.{length, getD}
 use Rattle.decimal.specs.Text.{textAt}
 use Rattle.decimal.specs.Digits.{numberAt, countAt}
 use Rattle.decimal.specs.declared.Counted.the-variants as counted
-use Rattle.decimal.proofs.Texts.{either-way, never-at}
+use Rattle.decimal.proofs.Texts.{either-way, never-at, number-small}
 use Rattle.decimal.proofs.Counts.{count-found, never-read}
 use Rattle.lists.proofs.Cases.{ltOr}
 use Rattle.decimal.specs.declared.Place.the-variants.{At, Stopped}
@@ -84,6 +84,13 @@ section-in before n after size b at block =
     either-way (textAt before b at) Stopped _ (λ r. r ≡ At block → block + size ≤ length b) (λ k d f. absurd (never-at k block f))
     (λ q d. either-way (numberAt n b q) Stopped (lineAt after size b) (λ r. r ≡ At block → block + size ≤ length b) (λ k d f. absurd (never-at k block f))
     (λ q d f. line-in after size b q block f))
+
+pub section-small : (before : List ℕ) (n : ℕ) (after : List ℕ) (size : ℕ) (b : List ℕ) (at block : ℕ) → sectionAt before n after size b at ≡ At block → n < 10000000000
+unfolding sectionAt
+section-small before n after size b at block =
+    either-way (textAt before b at) Stopped _ (λ r. r ≡ At block → n < 10000000000) (λ k d f. absurd (never-at k block f))
+    (λ q d. either-way (numberAt n b q) Stopped (lineAt after size b) (λ r. r ≡ At block → n < 10000000000) (λ k d f. absurd (never-at k block f))
+    (λ z d f. number-small n b q z d))
 
 -- ---- a count behind a text
 

@@ -22,6 +22,7 @@ use Rattle.decimal.proofs.Counts.{count-there, count-went}
 use Rattle.vtk_layout.proofs.Parts.{title-feed, title-next, block-there}
 use Rattle.vtk_layout.specs.Texts.{feed, space, versionLine, datasetLines, floatLine, cellsWord, typesWord, dataWord, scalarLines}
 use Rattle.vtk_layout.specs.Layout.{noFeed, isTitle, written, titleAt, lineAt, sectionAt, countedAt, headOf, endAt, numbersOn, typesOn, cellsOn, pointsOn, locatedOf}
+use Rattle.vtk_layout.specs.declared.Layout.{Layout}
 use Rattle.vtk_layout.specs.declared.Located.the-variants as located
 
 -- a part that is there, and what is left behind it
@@ -97,6 +98,17 @@ pub record Standing (b : List ℕ) (p n : ℕ) (P C T N : List ℕ) : Type 0 whe
   pub cells-are : take (20 * n) (drop cells b) ≡ C
   pub types-are : take (4 * n) (drop types b) ≡ T
   pub numbers-are : take (4 * n) (drop numbers b) ≡ N
+
+-- a whole file: its layout is found
+pub record Whole (b : List ℕ) : Type 0 where
+  pub layout : Layout
+  pub found : locatedOf b ≡ located.Found layout
+
+pub standing-whole : (b : List ℕ) (p n : ℕ) (P C T N : List ℕ) → Standing b p n P C T N → Whole b
+standing-whole b p n P C T N s = record {
+  layout = record { p = p; n = n; points = s .points; cells = s .cells; types = s .types; numbers = s .numbers };
+  found = s .found;
+}
 
 module _ (title : List ℕ) (p n : ℕ) (P C T N b : List ℕ) where
   last : List ℕ

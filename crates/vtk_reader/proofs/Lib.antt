@@ -3,3 +3,4 @@ pub mod Judging
 pub mod Files
 pub mod Cells
 pub mod Theorems
+pub mod Front

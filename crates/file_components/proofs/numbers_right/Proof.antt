@@ -18,7 +18,7 @@ same-length : tie.Need-same-length
 same-length c = search needs
 
 returns : tie.Need-returns
-returns c = record { right = uneven _ (c .before .before .before .before .before .before .before .before .args .s) (c .before .before .before .before .if1 .taken); zero = c .before .before .zero .ensures }
+returns c = record { right = uneven _ (c .before .before .before .before .before .before .before .before .args .s) (c .before .before .before .before .if1 .taken); zero = search needs }
 
 prepare-requires : tie.Need-prepare-requires
 prepare-requires c κs = search needs
