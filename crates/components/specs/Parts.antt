@@ -52,5 +52,5 @@ pub record Fits (C w : List ℕ) : Type 0 where
 
 -- the numbers, and the work table left zero
 pub record Whole (C o o′ w w′ : List ℕ) (r : ℕ) : Type 0 where
-  pub listed : Listed C o o′ r
   pub zero : w′ ≡ replicate (length w) 0
+  pub listed : Listed C o o′ r

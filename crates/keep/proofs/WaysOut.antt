@@ -101,14 +101,12 @@ module _ (P C w : List ℕ) (f : Fitting (length P) C (length w) 1 2) where
         (ap (λ (l : List ℕ). replicate (needOf P C) 0 ++ l)
         (ap (λ (k : ℕ). drop k lent) n ∙ drop-append-add s (drop (frontOf P C) w) (pointsOf P) ∙ drop-drop (pointsOf P) (frontOf P C) w ∙ ap (λ (k : ℕ). drop k w) m))
 
--- what `keep_rest` leaves: its work's front was lent and is now s
-pub rest-kept : (c : Float) (P C p q w : List ℕ) {least : Float} {r : Kept} {p′ q′ w′ : List ℕ} → least ≡ leastOf c
-    → KeptMarked P C (markedIn (drop (pointsOf P) (take (frontOf P C) w))) least p q r p′ q′ → w′ ≡ replicate (length w) 0 → RestKept c P C p q w r p′ q′ w′
-rest-kept c P C p q w {r = r} {p′ = p′} {q′ = q′} e k z = record {
-  kept = λ mark m.
-      subst (λ (x : Float). KeptMarked P C mark x p q r p′ q′) e (kept-same P C _ mark _ (m .marked) k);
-  zero = z;
-}
+-- what `keep_rest` keeps, whatever test the front of its work marks the cells by
+pub rest-kept : (c : Float) (P C p q w : List ℕ) {least : Float} {r : Kept} {p′ q′ : List ℕ} → least ≡ leastOf c
+    → KeptMarked P C (markedIn (drop (pointsOf P) (take (frontOf P C) w))) least p q r p′ q′
+    → (mark : ℕ → Bool) → MarksOf mark C (take (frontOf P C) w) (pointsOf P) → KeptMarked P C mark (leastOf c) p q r p′ q′
+rest-kept c P C p q w {r = r} {p′ = p′} {q′ = q′} e k mark m =
+    subst (λ (x : Float). KeptMarked P C mark x p q r p′ q′) e (kept-same P C _ mark _ (m .marked) k)
 
 -- ---- the two ways out
 

@@ -42,5 +42,5 @@ frontOf P C = pointsOf P + cellsOf C
 
 -- whatever test the front marks the cells by, those are kept, and the work is left zero
 pub record RestKept (c : Float) (P C p q w : List ℕ) (r : Kept) (p′ q′ w′ : List ℕ) : Type 0 where
-  pub kept : (mark : ℕ → Bool) → MarksOf mark C (take (frontOf P C) w) (pointsOf P) → KeptMarked P C mark (leastOf c) p q r p′ q′
   pub zero : w′ ≡ replicate (length w) 0
+  pub kept : (mark : ℕ → Bool) → MarksOf mark C (take (frontOf P C) w) (pointsOf P) → KeptMarked P C mark (leastOf c) p q r p′ q′

@@ -128,7 +128,7 @@ fn represent(
     n: usize,
 ) -> Counted
     requires { ⌜ Laid (now points) (now cells) (now work) n ⌝ }
-    ensures { λ r. ⌜ Represents (now (points .entry)) (now (cells .entry)) (now (crossing .entry)) (now (numbers .entry)) (now (centroids .entry)) r (now (numbers .exit)) (now (centroids .exit)) × (now (work .exit) ≡ replicate (length (now (work .entry))) 0) ⌝ }
+    ensures { λ r. ⌜ (now (work .exit) ≡ replicate (length (now (work .entry))) 0) × Represents (now (points .entry)) (now (cells .entry)) (now (crossing .entry)) (now (numbers .entry)) (now (centroids .entry)) r (now (numbers .exit)) (now (centroids .exit)) ⌝ }
 {
     groups::settle(cells, crossing, work, n);
     let answer = list_in_room(points, cells, crossing, numbers, centroids, work, n);

@@ -47,8 +47,10 @@ returns : tie.Need-returns
 returns c =
     let s = c .before .before .before .before .before .before .before .before .before .before .before .before .before .before .before .before .before .before .before .before .args in
     let k = c .before .before .before .before .before .before .before .before .before .before .keep-marked in
-    rest-kept _ _ _ _ _ _ (c .before .before .before .before .before .before .before .before .before .before .before .before .before .before .least-volume .ensures) (k .ensures)
-    (c .before .before .zero .ensures ∙ ap (λ (m : ℕ). replicate m 0) (length-front (s .work .now) (k .last .1 .1 .1 .1 .0) (frontOf (s .points .now) (s .cells .now)) (k .kept .1 .1 .1 .1 .0)))
+    record {
+      zero = c .before .before .zero .ensures ∙ ap (λ (m : ℕ). replicate m 0) (length-front (s .work .now) (k .last .1 .1 .1 .1 .0) (frontOf (s .points .now) (s .cells .now)) (k .kept .1 .1 .1 .1 .0));
+      kept = rest-kept _ _ _ _ _ _ (c .before .before .before .before .before .before .before .before .before .before .before .before .before .before .least-volume .ensures) (k .ensures);
+    }
 
 pub keep-rest-spec : {M : Type 1} → statement M
 keep-rest-spec =

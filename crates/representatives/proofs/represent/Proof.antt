@@ -29,7 +29,7 @@ same-length-3 : tie.Need-same-length-3
 same-length-3 c = search needs
 
 returns : tie.Need-returns
-returns c = (c .before .before .before .before .before .before .before .before .list-in-room .ensures, c .before .before .zero .ensures ∙ ap (λ (k : ℕ). replicate k 0) (c .before .before .before .before .before .before .before .before .before .before .before .before .before .before .settle .kept .1 .1 .0))
+returns c = (c .before .before .zero .ensures ∙ ap (λ (k : ℕ). replicate k 0) (c .before .before .before .before .before .before .before .before .before .before .before .before .before .before .settle .kept .1 .1 .0), c .before .before .before .before .before .before .before .before .list-in-room .ensures)
 
 pub represent-spec : {M : Type 1} → statement M
 represent-spec =

@@ -38,7 +38,7 @@ same-length-3 : tie.Need-same-length-3
 same-length-3 c = search needs
 
 returns-2 : tie.Need-returns-2
-returns-2 c = done _ _ _ _ _ _ (sym (c .before .before .before .before .before .before .before .before .before .before .before .judge .ensures) ∙ c .before .before .before .before .before .before .before .before .before .before .if1 .left) (c .before .before .before .before .before .before .represent .ensures .0) (c .before .before .before .before .before .before .represent .ensures .1)
+returns-2 c = done _ _ _ _ _ _ (sym (c .before .before .before .before .before .before .before .before .before .before .before .judge .ensures) ∙ c .before .before .before .before .before .before .before .before .before .before .if1 .left) (c .before .before .before .before .before .before .represent .ensures .1) (c .before .before .before .before .before .before .represent .ensures .0)
 
 pub representatives-spec : {M : Type 1} → statement M
 representatives-spec =
