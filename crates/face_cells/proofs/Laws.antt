@@ -17,7 +17,7 @@ use Rattle.vertex_keys.specs.Keys.{stride, mostKeys}
 use Rattle.face_cells.specs.declared.Edge.{Edge}
 use Rattle.face_cells.specs.declared.Quad.{Quad}
 use Rattle.face_cells.specs.declared.Corners.{Corners}
-use Rattle.face_cells.specs.Parts.{overNumbers, fanNumbers, allFine, halvesNumbers, turnedNumbers, faceNumbers, lowFace, highFace, axisNumbers, cornersAt, fromNext, axisKeyed, leafNumbers, turnsOf}
+use Rattle.face_cells.specs.Parts.{overNumbers, edge0, edge1, edge2, edge3, fanNumbers, allFine, halvesNumbers, turnedNumbers, faceNumbers, lowFace, highFace, axisNumbers, cornersAt, fromNext, axisKeyed, leafNumbers, turnsOf}
 
 -- ---- room
 
@@ -97,6 +97,39 @@ pub turned-room : (n c p q r s : ℕ) {o : List ℕ} {at : ℕ} → Room o at (t
 unfolding turnedNumbers
 turned-room zero c p q r s h = halves-room c p q r s h
 turned-room (suc n) c p q r s h = turned-room n c q r s p h
+
+-- ---- room is a matter of counts, not of which vertices
+
+over-long : (number : ℕ → ℕ) (fine : Bool) (e g : Edge) → length (overNumbers number fine e) ≡ length (overNumbers number fine g)
+unfolding overNumbers
+over-long number true e g = refl
+over-long number false e g = refl
+
+pub room-over : (number : ℕ → ℕ) (fine : Bool) (e g : Edge) {o : List ℕ} {at : ℕ} → Room o at (overNumbers number fine e) → Room o at (overNumbers number fine g)
+room-over number fine e g h = record { fits = omega (arith, h .fits, over-long number fine e g) }
+
+fan-long : (number : ℕ → ℕ) (p q : ℕ) (f : Quad) (fine : Edges) → length (fanNumbers number p q f fine)
+    ≡ length (overNumbers number (fine .e0) (edge0 0 0 f)) + length (overNumbers number (fine .e1) (edge1 0 0 f))
+    + length (overNumbers number (fine .e2) (edge2 0 0 f)) + length (overNumbers number (fine .e3) (edge3 0 0 f))
+unfolding fanNumbers
+fan-long number p q f fine =
+    let a : List ℕ = overNumbers number (fine .e0) (edge0 p q f) in
+    let b : List ℕ = overNumbers number (fine .e1) (edge1 p q f) in
+    let c : List ℕ = overNumbers number (fine .e2) (edge2 p q f) in
+    let d : List ℕ = overNumbers number (fine .e3) (edge3 p q f) in
+    omega (
+      arith,
+      length-append a (b ++ (c ++ d)),
+      length-append b (c ++ d),
+      length-append c d,
+      over-long number (fine .e0) (edge0 p q f) (edge0 0 0 f),
+      over-long number (fine .e1) (edge1 p q f) (edge1 0 0 f),
+      over-long number (fine .e2) (edge2 p q f) (edge2 0 0 f),
+      over-long number (fine .e3) (edge3 p q f) (edge3 0 0 f),
+    )
+
+pub room-fan : (number : ℕ → ℕ) (p q p′ q′ : ℕ) (f : Quad) (fine : Edges) {o : List ℕ} {at : ℕ} → Room o at (fanNumbers number p q f fine) → Room o at (fanNumbers number p′ q′ f fine)
+room-fan number p q p′ q′ f fine h = record { fits = omega (arith, h .fits, fan-long number p q f fine, fan-long number p′ q′ f fine) }
 
 -- ---- a face, by what stands beside it
 

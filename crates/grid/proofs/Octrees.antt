@@ -4,7 +4,7 @@ use mathlib.Core.List.{List, [], _∷_, _++_, map}
 use Prim.Native.Nat.{ℕ, zero, suc, _+_, _*_, _-_, _^_, _≤_, _<_}
 use native.Mathlib.Nat.{pow-suc}
 use native.Mathlib.Omega.{arith}
-use lib.ListN.{length, getD, take, drop, length-append, length-drop, take-append-drop}
+use lib.ListN.{length, getD, take, drop, length-append, length-drop, length-map, take-append-drop}
 use lib.Seq.{sets, sets-eq, length-take-le, take-at, drop-at, drop-drop, take-append-le, length-sets}
 use borrow.Rule.Slice.PartMut.{putMid, postOf, same-len-mid, mid-len}
 use Rattle.sorting.specs.Numbers.{SortedTo, distinctSorted, rank, StrictTo}
@@ -130,13 +130,9 @@ module _ (p : Plan) (s : List ℕ) (h : 1 ≤ p .levels) where
   pub octree-cell-count : cellCount p s ≡ length (cells (p .levels) (dimsOf p) (read (dimsOf p) (p .levels) s))
   octree-cell-count = ap length octree-cells
 
-  pub map-length : (l : List ℕ) → length (map tripleOf l) ≡ length l
-  map-length [] = refl
-  map-length (x ∷ l) = ap suc (map-length l)
-
   module _ (w : List ℕ) (v : ℕ) (hv : v ≤ length w) (ek : take v w ≡ vertexKeys (p .levels) (dimsOf p) s) where
     pub octree-vertex-count : v ≡ vertexCount p s
-    octree-vertex-count = sym (length-take-le v w hv) ∙ ap length ek ∙ sym (map-length (vertexKeys (p .levels) (dimsOf p) s)) ∙ ap length (sym octree-vertices)
+    octree-vertex-count = sym (length-take-le v w hv) ∙ ap length ek ∙ sym (length-map (vertexKeys (p .levels) (dimsOf p) s) tripleOf) ∙ ap length (sym octree-vertices)
 
     pub octree-table : flat (λ q. rank (keyOf q) (take v w)) (cells (p .levels) (dimsOf p) (read (dimsOf p) (p .levels) s)) ≡ cellTable p s
     unfolding cellTable

@@ -1,6 +1,6 @@
 use native.Mathlib.Omega.{arith}
 use Rattle.lists.proofs.Running.{stored-as, stored-none}
-use Rattle.face_cells.proofs.Laws.{room-to, face-split, face-equal, face-given, face-coarser, face-border, turned-room, turns-few}
+use Rattle.face_cells.proofs.Laws.{room-to, room-halves, halves-room, room-fan, face-split, face-equal, face-given, face-coarser, face-border, turned-room, turns-few}
 use borrow.Author.Needs.{needs}
 use Rattle.face_cells.proofs.face_cells.Statement.{statement}
 use Rattle.face_cells.proofs.face_cells.Tie as tie
@@ -18,7 +18,7 @@ find-requires : tie.Need-find-requires
 find-requires c κs = search needs
 
 fan-requires : tie.Need-fan-requires
-fan-requires c κs = (c .before .before .before .before .before .before .before .before .pre .0, (omega (arith, c .before .before .before .before .before .before .before .before .pre .1 .0), room-to (face-split _ _ _ _ _ (c .before .before .before .before .enum-told .given .1) (c .before .find .ensures)) (c .before .before .before .before .before .before .before .before .pre .1 .1 .1)))
+fan-requires c κs = (c .before .before .before .before .before .before .before .before .pre .0, (omega (arith, c .before .before .before .before .before .before .before .before .pre .1 .0), room-fan _ _ _ _ _ _ _ (room-to (face-split _ _ _ _ _ (c .before .before .before .before .enum-told .given .1) (c .before .find .ensures)) (c .before .before .before .before .before .before .before .before .pre .1 .1 .1))))
 
 enum-known-side : tie.Need-enum-known-side
 enum-known-side c = search needs
@@ -39,7 +39,7 @@ near-requires : tie.Need-near-requires
 near-requires c κs = search needs
 
 fan-requires-2 : tie.Need-fan-requires-2
-fan-requires-2 c κs = (c .before .before .before .before .before .before .before .before .before .before .pre .0, (omega (arith, c .before .before .before .before .before .before .before .before .before .before .pre .1 .0), room-to (face-equal _ _ _ _ _ (c .before .before .before .before .before .before .side .given .1) (c .before .near .ensures)) (c .before .before .before .before .before .before .before .before .before .before .pre .1 .1 .1)))
+fan-requires-2 c κs = (c .before .before .before .before .before .before .before .before .before .before .pre .0, (omega (arith, c .before .before .before .before .before .before .before .before .before .before .pre .1 .0), room-fan _ _ _ _ _ _ _ (room-to (face-equal _ _ _ _ _ (c .before .before .before .before .before .before .side .given .1) (c .before .near .ensures)) (c .before .before .before .before .before .before .before .before .before .before .pre .1 .1 .1))))
 
 enum-told-2 : tie.Need-enum-told-2
 enum-told-2 c = search needs
@@ -54,7 +54,7 @@ enum-told-3 : tie.Need-enum-told-3
 enum-told-3 c = search needs
 
 halves-requires : tie.Need-halves-requires
-halves-requires c κs = room-to (face-border _ _ _ _ (c .before .enum-told3 .given .1)) (c .before .before .before .before .before .pre .1 .1 .1)
+halves-requires c κs = room-halves _ _ _ _ _ (halves-room _ _ _ _ _ (room-to (face-border _ _ _ _ (c .before .enum-told3 .given .1)) (c .before .before .before .before .before .pre .1 .1 .1)))
 
 same-length : tie.Need-same-length
 same-length c = search needs

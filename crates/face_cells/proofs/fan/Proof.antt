@@ -1,7 +1,7 @@
 use mathlib.Core.Path.{refl}
 use Rattle.lists.proofs.Running.{stored-both}
 use Rattle.face_cells.specs.Parts.{fanNumbers}
-use Rattle.face_cells.proofs.Laws.{room-front, room-rest}
+use Rattle.face_cells.proofs.Laws.{room-front, room-rest, room-over}
 use borrow.Author.Needs.{needs}
 use Rattle.face_cells.proofs.fan.Statement.{statement}
 use Rattle.face_cells.proofs.fan.Tie as tie
@@ -44,7 +44,7 @@ over-requires-3 c κs = (c .before .before .before .before .before .before .befo
 
 over-requires-4 : tie.Need-over-requires-4
 unfolding fanNumbers
-over-requires-4 c κs = (c .before .before .before .before .before .before .before .before .before .before .before .before .before .before .before .pre .0, room-rest _ _ (room-rest _ _ (room-rest _ _ (c .before .before .before .before .before .before .before .before .before .before .before .before .before .before .before .pre .1 .1) (c .before .before .before .before .before .before .before .before .before .before .before .over .ensures)) (c .before .before .before .before .before .before .before .over2 .ensures)) (c .before .before .before .over3 .ensures))
+over-requires-4 c κs = (c .before .before .before .before .before .before .before .before .before .before .before .before .before .before .before .pre .0, room-over _ _ _ _ (room-rest _ _ (room-rest _ _ (room-rest _ _ (c .before .before .before .before .before .before .before .before .before .before .before .before .before .before .before .pre .1 .1) (c .before .before .before .before .before .before .before .before .before .before .before .over .ensures)) (c .before .before .before .before .before .before .before .over2 .ensures)) (c .before .before .before .over3 .ensures)))
 
 same-length : tie.Need-same-length
 same-length c = search needs
