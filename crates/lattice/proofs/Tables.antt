@@ -6,8 +6,9 @@ use Prim.Native.Nat.{ℕ, _+_, _*_, _-_, _/_, _≤_, _<_}
 use native.Mathlib.Nat.{mul-le-mul}
 use native.Mathlib.Omega.{arith}
 use lib.Dec.{ltb}
-use Rattle.lists.specs.Runs.{run, Splits}
-use Rattle.lists.proofs.Running.{run-same, run-map}
+use lib.ListN.{length}
+use Rattle.lists.specs.Runs.{run, Splits, Room}
+use Rattle.lists.proofs.Running.{run-same, run-map, length-run, sum-same}
 use Rattle.space.specs.Space.{Axis, ax, ay, az, Pos, pos, Inside}
 use Rattle.space.proofs.Space.{on-all}
 use Rattle.octree_cells.specs.Cells.{flat}
@@ -17,7 +18,7 @@ use Rattle.lattice.specs.declared.Octa.{Octa}
 use Rattle.lattice.specs.declared.Row.{Row}
 use Rattle.lattice.specs.Lattice.{evens, odds, boxUp, doubled, indexOf, centreCells, latticeCells, latticeVertices, latticeTable}
 use Rattle.plan.specs.Vertices.{dimsOf, spread}
-use Rattle.lattice.specs.Parts.{octaNumbers, numbersAt, rowNumbers, InRow, IsRow, cellsAt, rowCells, allCells, boxOf, verticesOf}
+use Rattle.lattice.specs.Parts.{octaNumbers, numbersAt, rowNumbers, InRow, IsRow, cellsAt, rowCells, allCells, rowOf, layerOf, boxOf, verticesOf}
 use Rattle.lattice.proofs.Octahedra.{axis-numbers}
 
 -- ---- the cells
@@ -110,6 +111,19 @@ vertices-split g p = record {
       spread-append g (boxUp (evens (dimsOf p)) (λ x. doubled 0 x ∷ [])) (boxUp (odds (dimsOf p)) (λ x. doubled 1 x ∷ []))
       ∙ ap₂ (λ (a b : List ℕ). a ++ b) (spread-box g 0 (evens (dimsOf p))) (spread-box g 1 (odds (dimsOf p)));
 }
+
+-- a box of even triples is as long as one of odd ones, so room for the one is room for the other
+box-long : (g : Axis → ℕ → ℕ) (e f n m l : ℕ) → length (boxOf g e n m l) ≡ length (boxOf g f n m l)
+box-long g e f n m l = length-run l (layerOf g e n m) 0 ∙ sum-same l _ _ 0 (λ k a b. layer k) ∙ sym (length-run l (layerOf g f n m) 0)
+  where
+    row : (k j : ℕ) → length (rowOf g e n k j) ≡ length (rowOf g f n k j)
+    row k j = length-run n _ 0 ∙ sym (length-run n _ 0)
+
+    layer : (k : ℕ) → length (layerOf g e n m k) ≡ length (layerOf g f n m k)
+    layer k = length-run m (rowOf g e n k) 0 ∙ sum-same m _ _ 0 (λ j a b. row k j) ∙ sym (length-run m (rowOf g f n k) 0)
+
+pub room-box : (g : Axis → ℕ → ℕ) (e f n m l : ℕ) {o : List ℕ} {at : ℕ} → Room o at (boxOf g e n m l) → Room o at (boxOf g f n m l)
+room-box g e f n m l h = record { fits = omega (arith, h .fits, box-long g e f n m l) }
 
 -- a place in a box is small
 pub small-slot : (j k n m : ℕ) → j ≤ 65 → k ≤ 65 → n ≤ 65 → m ≤ 65 → (k * n ≤ 4225) × ((j + k * n) * m ≤ 278850)

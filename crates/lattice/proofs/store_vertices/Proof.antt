@@ -1,7 +1,7 @@
 use native.Mathlib.Omega.{arith}
 use Rattle.lists.proofs.Running.{room-first, stored-both, storing-start, storing-on, storing-room}
 use Rattle.plan.specs.Vertices.{tripleAt, pointAt}
-use Rattle.lattice.proofs.Tables.{vertices-split}
+use Rattle.lattice.proofs.Tables.{vertices-split, room-box}
 use borrow.Author.Needs.{needs}
 use Rattle.lattice.proofs.store_vertices.Statement.{statement}
 use Rattle.lattice.proofs.store_vertices.Tie as tie
@@ -19,7 +19,7 @@ vertex-box-requires : tie.Need-vertex-box-requires
 vertex-box-requires c κs =
     let p = c .before .before .before .before .args .p in
     let q = c .before .before .before .before .pre in
-    (omega (arith, q .0), omega (arith, q .0), omega (arith, q .0), omega arith, record { triples = room-first (vertices-split tripleAt p) (q .1 .triples); points = room-first (vertices-split (pointAt p) p) (q .1 .points) })
+    (omega (arith, q .0), omega (arith, q .0), omega (arith, q .0), omega arith, record { triples = room-box tripleAt 0 _ _ _ _ (room-first (vertices-split tripleAt p) (q .1 .triples)); points = room-box (pointAt p) 0 _ _ _ _ (room-first (vertices-split (pointAt p) p) (q .1 .points)) })
 
 add-vertex-box-4 : tie.Need-add-vertex-box-4
 add-vertex-box-4 c = search needs
