@@ -49,6 +49,13 @@ int main(void) {
     printf("%-15s %u x %u x %u roots from %g, unit %g, %u octants\n", "plan", plan.dim_x, plan.dim_y, plan.dim_z,
            (double)plan.origin_x, (double)plan.half, plan.octants);
 
+    /* A rail that is too long along y: the refusal says so. */
+    const sf_bounds rail = {0, 0, 0, 4, 70, 4};
+    sf_planned refused = sf_plan(rail, c, levels);
+    if (refused.number != 4 || refused.value != 1) return 1;
+    sf_answer unrefined = sf_refine(rail, c, levels, NULL, 0, NULL, 0);
+    if (unrefined.number != 4 || unrefined.first != 1) return 1;
+
     /* Which octants are crossed: with one level only the roots are asked, each c wide. */
     uint8_t *crossing = table(plan.octants, 1), *split = table(plan.octants, 1);
     for (uint32_t n = 0; n < plan.octants; n++) {

@@ -22,7 +22,8 @@
  *
  * Answers
  *   `number` is 0 for an answer, else the number of the refusal. On an answer `first`, `second`, `third` hold its
- *   values, on a 9 the counts that are needed, else 0. Values that a function does not name are 0.
+ *   values, on a 9 the counts that are needed, on a 4 of refine and grid `first` is what the plan's 4 names, else 0.
+ *   Values that a function does not name are 0.
  *   The lowest number that applies is given; the two readers have an order of their own.
  *
  *    1  the cell size c is zero, negative, NaN or infinite
@@ -30,7 +31,8 @@
  *    3  levels above 5
  *    4  too large: octree dims above 64, lattice dims above 128, more than 1,048,576 octants, more than 536,870,912
  *       points or cells (whole entries are counted); or a computed domain bound, origin, extent or far corner is not
- *       finite
+ *       finite. In plan, refine and grid it names the first axis that breaks its bound or has such a value, 0, 1 or 2
+ *       for x, y or z, or 3 where only the octants are too many
  *    5  an input table has the wrong length, or a work table is too short (in the grid and the readers: 9)
  *    6  a byte above 1 in a table of answers or in a split table
  *    7  the split table has a split octant under an unsplit one, or touching leaves more than one level apart
@@ -64,8 +66,8 @@ typedef struct {
 } sf_bounds;
 
 typedef struct {
-    uint32_t number;                   /* 0, or 1 to 4; on a refusal every other field is 0 */
-    uint32_t value;                    /* 0 */
+    uint32_t number;                   /* 0, or 1 to 4; on a refusal every other field is 0, but for value on a 4 */
+    uint32_t value;                    /* on a 4: the first axis 0, 1, 2 that is at fault, or 3 where only N is; else 0 */
     float origin_x, origin_y, origin_z; /* where the triple (0, 0, 0) stands */
     float half;                        /* the unit: half the width of a finest octant or lattice cube */
     uint32_t dim_x, dim_y, dim_z;      /* roots along each axis; for levels 0, units along each axis */
@@ -79,13 +81,13 @@ typedef struct {
 
 /* The plan of a grid over the box, loosened by c: origin, unit and dimensions. levels 0 is the lattice, 1 to 5 an
  * octree whose roots are c wide. A vertex v stands at origin + v * half, in float.
- * Refusals 1, 2, 3, 4. It takes no table. */
+ * Refusals 1, 2, 3, 4, the 4 with value. It takes no table. */
 sf_planned sf_plan(sf_bounds box, float c, uint32_t levels);
 
 /* Which octants to split: those crossed whose ancestors are all crossed, and then the fewest more so that leaves that
  * touch, by face, edge or corner, are at most one level apart.
  * Answer: first = how many are split; split[0..N) is the split table.
- * Refusals: 1 to 4 as the plan; 5 crossing_len is not N; 6 a crossing byte above 1, read or not; 9 split_len below N,
+ * Refusals: 1 to 4 as the plan, on a 4 first = its value; 5 crossing_len is not N; 6 a crossing byte above 1, read or not; 9 split_len below N,
  * first = N. */
 sf_answer sf_refine(sf_bounds box, float c, uint32_t levels,
                     const uint8_t *crossing, size_t crossing_len,
@@ -94,7 +96,7 @@ sf_answer sf_refine(sf_bounds box, float c, uint32_t levels,
 /* The cells and vertices of the plan's grid under a split table (empty for levels 0).
  * Answer: first = cells, second = vertices; the cells, and each vertex's triple and point. Work is zero.
  * Work needed: 4 * cells entries.
- * Refusals: 1 to 4 as the plan; 5 split_len is not N; 6 a split byte above 1; 7 a split table that is no graded
+ * Refusals: 1 to 4 as the plan, on a 4 first = its value; 5 split_len is not N; 6 a split byte above 1; 7 a split table that is no graded
  * octree; 9 with first = cells, second = 0 if the room for cells or the work is short; else 9 with first = cells,
  * second = vertices if the room for triples or points is short, and then work is zero. To size the tables, ask with
  * empty ones first. */

@@ -4,7 +4,7 @@ use crate::cover::Request;
 use crate::crossed::Crossed;
 use crate::part::Part;
 use crate::plan::{Bounds, Plan};
-use crate::refusal::Refusal;
+use crate::refusal::{Refusal, TooLarge, AXES};
 use crate::spacing::Steps;
 
 /// The greatest number of levels a plan takes.
@@ -56,18 +56,24 @@ fn sides(Bounds { min, max }: Bounds) -> [f64; 3] {
     std::array::from_fn(|axis| f64::from(max[axis]) - f64::from(min[axis]))
 }
 
-/// What to do about a box that is too large: which side is too long, and what fits. `None` where the box is not too
-/// large by the host's own reckoning.
-pub fn instead(bounds: Bounds, request: Request) -> Option<String> {
-    let fits = |plan: Plan| format!("--levels {} --cell {}", plan.levels(), plan.cell());
+/// What to do about a box that is too large: what the refusal names, by how much it is too large, and what fits, of
+/// which the plan was asked.
+pub fn instead(bounds: Bounds, request: Request, named: TooLarge) -> String {
+    let order = |plan: Plan| format!("--levels {} --cell {}", plan.levels(), plan.cell());
     let own = match least_cell(bounds, request.levels) {
-        Some(plan) => format!("{} fits", fits(plan)),
+        Some(plan) => format!("a cell of {} fits ({})", plan.cell(), order(plan)),
         None => format!("no cell of use fits {} levels", request.levels),
     };
-    let finest = finest(bounds)?;
-    let unit = finest.half();
-    let long = too_long(bounds, request)?;
-    Some(format!("{long}; {own}; the finest unit, {unit}, comes of {}", fits(finest)))
+    let long = match named {
+        TooLarge::Axis(axis) => too_long(bounds, request, axis),
+        TooLarge::Octants => too_many(bounds, request),
+    };
+    match finest(bounds) {
+        Some(plan) => {
+            format!("{long}; {own}; the finest unit, {}, comes of {}", plan.half(), order(plan))
+        }
+        None => format!("{long}; {own}"),
+    }
 }
 
 /// Of the plans with the least cell at each level the one with the least unit.
@@ -76,24 +82,43 @@ pub fn finest(bounds: Bounds) -> Option<Plan> {
     plans.min_by(|one, other| one.half().total_cmp(&other.half()))
 }
 
-/// About how long the box is, in the plan's own measure: roots, or units of a lattice. A refusal hands out no number, so
-/// this is worked out here.
-fn too_long(bounds: Bounds, Request { cell, levels, .. }: Request) -> Option<String> {
-    let (margin, width, most, name) = match levels {
+/// What the plan counts along an axis: cells on both sides of the box, how much of a cell one is, the most, its name.
+fn measure(levels: u32) -> (f64, f64, f64, &'static str) {
+    match levels {
         0 => (4.0, 0.5, 128.0, "half cells"),
         _ => (6.0, 1.0, 64.0, "roots"),
-    };
-    let counts = sides(bounds).map(|side| ((side / f64::from(cell) + margin) / width).ceil());
-    if let Some(axis) = (0..3).find(|axis| counts[*axis] > most) {
-        let (side, count) = (["x", "y", "z"][axis], counts[axis]);
-        return Some(format!(
-            "the box is too long along {side}: about {count} {name}, at most {most}"
-        ));
     }
-    let roots: f64 = counts.iter().product();
-    let octants = roots * (0..levels).map(|level| 8f64.powi(level as i32)).sum::<f64>();
-    (octants > MOST_OCTANTS)
-        .then(|| format!("{roots} roots make about {octants} octants, at most {MOST_OCTANTS}"))
+}
+
+/// About how many of them there are along an axis. A refusal hands out no dimension, so this is worked out here.
+fn count(bounds: Bounds, Request { cell, levels, .. }: Request, axis: usize) -> f64 {
+    let (around, width, ..) = measure(levels);
+    ((sides(bounds)[axis] / f64::from(cell) + around) / width).ceil()
+}
+
+/// Why the plan names this axis: it is too long, or what is reckoned of it runs past the floats.
+fn too_long(bounds: Bounds, request: Request, axis: usize) -> String {
+    let (around, width, most, name) = measure(request.levels);
+    let (cell, count, along) = (f64::from(request.cell), count(bounds, request, axis), AXES[axis]);
+    let ends = [bounds.min[axis], bounds.max[axis]].map(|end| f64::from(end).abs());
+    let reach = ends.into_iter().fold(sides(bounds)[axis], f64::max) + (around + 1.0) * cell;
+    if count <= most && reach > f64::from(f32::MAX) {
+        return format!("with this cell the box runs past the 32-bit floats along {along}");
+    }
+    let about = match count > most {
+        true => format!("about {count}"),
+        false => format!("a little over {most}"),
+    };
+    format!(
+        "the box is too long along {along}: {about} {name} of {}, at most {most}",
+        (width * cell) as f32
+    )
+}
+
+fn too_many(bounds: Bounds, request: Request) -> String {
+    let roots: f64 = (0..3).map(|axis| count(bounds, request, axis)).product();
+    let octants = roots * (0..request.levels).map(|level| 8f64.powi(level as i32)).sum::<f64>();
+    format!("{roots} roots make about {octants} octants, at most {MOST_OCTANTS}")
 }
 
 #[cfg(test)]
@@ -115,21 +140,48 @@ mod tests {
         assert!(least_cell(Bounds::default(), 1).is_none());
     }
 
+    /// What is told of a plan that is refused with 4.
+    fn told(bounds: Bounds, cell: f32, levels: u32) -> String {
+        let named = Plan::new(bounds, cell, levels).unwrap_err().too_large().unwrap();
+        instead(bounds, Request { cell, levels, ..Request::default() }, named)
+    }
+
     #[test]
     fn advice_names_the_side_and_what_fits() {
         let long = Bounds { min: [0.0; 3], max: [10.0, 700.0, 10.0] };
-        let told = |bounds, cell, levels| {
-            instead(bounds, Request { cell, levels, ..Request::default() }).unwrap_or_default()
-        };
         let words = told(long, 10.0, 1);
+        let start =
+            "the box is too long along y: about 76 roots of 10, at most 64; a cell of 12.1 fits";
+        assert!(words.starts_with(start), "{words}");
+        assert!(words.contains("(--levels 1 --cell 12.1)"), "{words}");
+        let words = told(long, 10.0, 0);
         assert!(
-            words.starts_with("the box is too long along y: about 76 roots, at most 64"),
+            words.starts_with("the box is too long along y: about 148 half cells of 5"),
             "{words}"
         );
-        assert!(words.contains("--levels 1 --cell 12.1 fits"), "{words}");
         let words = told(CUBE, 10.0, 5);
         assert!(words.starts_with("343 roots make about 1605583 octants"), "{words}");
         assert!(words.contains("no cell of use fits 5 levels"), "{words}");
-        assert_eq!(told(CUBE, 1e38, 1), "");
+        let words = told(CUBE, 1e38, 1);
+        assert!(
+            words.starts_with("with this cell the box runs past the 32-bit floats along x;"),
+            "{words}"
+        );
+    }
+
+    #[test]
+    fn the_cell_that_is_told_fits() {
+        for (side, cell, levels) in
+            [(700.0, 10.0, 1), (59.0, 1.0, 2), (5.0, 0.01, 0), (33.3, 0.5, 1)]
+        {
+            for axis in 0..3 {
+                let mut bounds = CUBE;
+                bounds.max[axis] = side;
+                let words = told(bounds, cell, levels);
+                let fits = words.split("a cell of ").nth(1).and_then(|rest| rest.split(' ').next());
+                let fits: f32 = fits.unwrap_or_default().parse().unwrap();
+                assert!(Plan::new(bounds, fits, levels).is_ok(), "{words}");
+            }
+        }
     }
 }

@@ -45,12 +45,14 @@ pub fn cover(order: &CoverOrder) -> Result<Told, String> {
 fn covered(order: &CoverOrder, source: &Source) -> Result<Covered, String> {
     let name = &source.file;
     sporeferry::cover::cover(&source.part, order.request).map_err(|error| match error {
-        CoverError::Refused(Refusal { number: 4, .. }) => {
-            let words = instead(source.part.bounds, order.request);
-            let advice = words.map(|words| format!("refusal 4 of plan: {words}"));
-            let list = format!("\"sporeferry advise {}\" lists what fits", name.display());
-            about(name)(format!("{}; {list}", advice.unwrap_or(error.to_string())))
-        }
+        CoverError::Refused(refusal) => about(name)(match refusal.too_large() {
+            Some(named) => {
+                let words = instead(source.part.bounds, order.request, named);
+                let list = format!("\"sporeferry advise {}\" lists what fits", name.display());
+                format!("refusal 4 of plan: {words}; {list}")
+            }
+            None => refusal.to_string(),
+        }),
         error => about(name)(error.to_string()),
     })
 }

@@ -21,8 +21,9 @@ use crate::refusal::{Refusal, Step};
 #[repr(C)]
 #[derive(Clone, Copy, Debug, PartialEq)]
 pub struct Planned {
-    /// 0, or the number of the refusal; then all else is 0.
+    /// 0, or the number of the refusal; then all else is 0, but for what a 4 names.
     pub number: u32,
+    /// On a 4 the first axis at fault, 0, 1 or 2, or 3 for the octants.
     pub value: u32,
     pub origin: [f32; 3],
     pub half: f32,

@@ -55,4 +55,4 @@ pub mod whole_file;
 pub use grid::{Grid, Kept, Representative};
 pub use mesh::{Components, Mesh};
 pub use plan::{Bounds, Plan, Refined};
-pub use refusal::{Refusal, Step};
+pub use refusal::{Refusal, Step, TooLarge};

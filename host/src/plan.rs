@@ -41,7 +41,7 @@ pub struct Plan {
 }
 
 impl Plan {
-    /// Plans the grid over a box, refused with 1 to 4.
+    /// Plans the grid over a box, refused with 1 to 4. What a 4 names is [`Refusal::too_large`].
     ///
     /// ```
     /// use sporeferry::{Bounds, Plan};
@@ -53,7 +53,8 @@ impl Plan {
     pub fn new(bounds: Bounds, cell: f32, levels: u32) -> Result<Self, Refusal> {
         let planned = lent::plan(bounds, cell, levels);
         if planned.number != 0 {
-            return Err(Refusal { step: Step::Plan, number: planned.number, values: [0; 3] });
+            let values = [planned.value.into(), 0, 0];
+            return Err(Refusal { step: Step::Plan, number: planned.number, values });
         }
         Ok(Plan {
             bounds,

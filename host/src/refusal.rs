@@ -39,6 +39,18 @@ impl Step {
     }
 }
 
+/// What a 4 of plan, refine or grid names.
+#[derive(Clone, Copy, Debug, PartialEq, Eq)]
+pub enum TooLarge {
+    /// The first axis, x, y or z by 0, 1 or 2, that is too long or runs past the floats.
+    Axis(usize),
+    /// Every axis fits, and there are too many octants.
+    Octants,
+}
+
+/// The names of the axes.
+pub const AXES: [&str; 3] = ["x", "y", "z"];
+
 /// Why a step gave no answer. Its `Display` is one plain sentence.
 ///
 /// ```
@@ -55,11 +67,32 @@ pub struct Refusal {
     pub step: Step,
     /// The refusal's number, 1 to 15.
     pub number: u32,
-    /// The counts needed on a 9, in the order the header names them; else zeros.
+    /// The counts needed on a 9, in the order the header names them; on a 4 of plan, refine and grid first what it
+    /// names; else zeros.
     pub values: [u64; 3],
 }
 
 impl Refusal {
+    /// What a 4 of plan, refine or grid names; `None` of any other refusal.
+    ///
+    /// ```
+    /// use sporeferry::{Bounds, Plan, TooLarge};
+    /// let rail = Bounds { min: [0.0; 3], max: [10.0, 700.0, 10.0] };
+    /// let refusal = Plan::new(rail, 10.0, 1).unwrap_err();
+    /// assert_eq!(refusal.too_large(), Some(TooLarge::Axis(1)));
+    /// let refusal = Plan::new(Bounds { min: [0.0; 3], max: [10.0; 3] }, 10.0, 5).unwrap_err();
+    /// assert_eq!(refusal.too_large(), Some(TooLarge::Octants));
+    /// ```
+    pub fn too_large(&self) -> Option<TooLarge> {
+        match (self.number, self.step, self.values[0]) {
+            (4, Step::Plan | Step::Refine | Step::Grid, axis @ 0..3) => {
+                Some(TooLarge::Axis(axis as usize))
+            }
+            (4, Step::Plan | Step::Refine | Step::Grid, _) => Some(TooLarge::Octants),
+            _ => None,
+        }
+    }
+
     /// The cause in plain words, without number and step.
     pub fn words(&self) -> String {
         match self.number {
@@ -68,7 +101,7 @@ impl Refusal {
                 "the box has a bound that is not finite, or a least bound above its greatest".into()
             }
             3 => "more than 5 levels were asked for".into(),
-            4 => self.too_large().into(),
+            4 => self.over_a_bound(),
             5 => self.wrong_length().into(),
             6 => self.wrong_byte().into(),
             7 => "the split table is no graded octree: an octant is split under one that is not, \
@@ -86,14 +119,17 @@ impl Refusal {
         }
     }
 
-    fn too_large(&self) -> &'static str {
-        match self.step {
-            Step::Plan | Step::Refine | Step::Grid => {
-                "the box is too large for this cell size and these levels (an octree has at most \
-                 64 roots along an axis and 1,048,576 octants, a lattice at most 64 cells along \
-                 an axis), or coordinates run past the 32-bit floats"
+    fn over_a_bound(&self) -> String {
+        match self.too_large() {
+            Some(TooLarge::Axis(axis)) => format!(
+                "the box is too long along {} for this cell size (an octree has at most 64 roots along an axis, a \
+                 lattice at most 64 cells), or runs past the 32-bit floats there",
+                AXES[axis]
+            ),
+            Some(TooLarge::Octants) => {
+                "the number of octants is above 1,048,576 at this cell size and these levels".into()
             }
-            _ => "there are more than 536,870,912 points or cells",
+            None => "there are more than 536,870,912 points or cells".into(),
         }
     }
 

@@ -1,6 +1,7 @@
 //! Whether a grid's vertices stand apart as they should: far from the origin 32-bit floats are sparse.
 
 use crate::plan::Plan;
+use crate::refusal::AXES;
 use std::fmt;
 
 /// The least and the greatest step from a vertex to the next along an axis, over all axes. They are the unit, but for
@@ -24,7 +25,7 @@ pub struct TooFar {
 impl fmt::Display for TooFar {
     fn fmt(&self, f: &mut fmt::Formatter<'_>) -> fmt::Result {
         let TooFar { unit, axis, at, apart } = self;
-        let name = ["x", "y", "z"][*axis];
+        let name = AXES[*axis];
         write!(
             f,
             "the part stands too far from the origin for this grid: near {name} = {at} 32-bit floats are {apart} apart, \

@@ -53,7 +53,10 @@ fn a_part_that_cannot_be_covered_leaves_nothing_behind() {
         ],
     );
     for (words, holds) in [
-        ("ball.stl --cell 1e38 -o old.mesh", "refusal 4 of plan: the box is too large for"),
+        (
+            "ball.stl --cell 1e38 -o old.mesh",
+            "refusal 4 of plan: with this cell the box runs past the 32-bit floats along x; ",
+        ),
         ("open.stl --cell 4 -o new.mesh", "it is open at 3 edges, around 1 hole: for one from ("),
         ("open.stl --cell 4 -o new.mesh", "join near corners with --weld EPS, or take its --crust"),
         ("short.stl --cell 4 -o new.mesh", "nor a whole binary one: "),
@@ -77,8 +80,14 @@ fn a_part_that_cannot_be_covered_leaves_nothing_behind() {
 fn what_a_plan_takes_is_advised() {
     let folder = folder_with("advised", &[("ball.stl", &ball())]);
     for (words, holds) in [
-        ("--cell 0.01", "too long along x: about 4009 half cells, at most 128; --levels 0 --cell"),
-        ("--cell 0.1 --levels 1", "too long along x: about 206 roots, at most 64; --levels 1"),
+        (
+            "--cell 0.01",
+            "too long along x: about 4009 half cells of 0.005, at most 128; a cell of ",
+        ),
+        (
+            "--cell 0.1 --levels 1",
+            "too long along x: about 206 roots of 0.1, at most 64; a cell of ",
+        ),
         (
             "--cell 1 --levels 5",
             "17576 roots make about 82273256 octants, at most 1048576; no cell",

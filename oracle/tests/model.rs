@@ -7,7 +7,7 @@ use oracle::expected::graded::graded;
 use oracle::expected::grid::Grid;
 use oracle::expected::keep::representatives_of;
 use oracle::expected::mesh::Mesh;
-use oracle::expected::plan::{octree, Plan};
+use oracle::expected::plan::{octree, plan, Plan, OCTANTS};
 use oracle::expected::refine::split_table;
 use oracle::random::Random;
 use oracle::steps::{boxes, crossing, meshes};
@@ -47,6 +47,37 @@ fn closed(layout: &Layout, mut split: Vec<u8>) -> Vec<u8> {
         }
     }
     split
+}
+
+/// The same box with another axis in front.
+fn in_front(call: &PlanCall, axis: usize) -> PlanCall {
+    let mut turned = call.clone();
+    turned.bounds.min.swap(0, axis);
+    turned.bounds.max.swap(0, axis);
+    turned
+}
+
+/// What a 4 names: an axis is at fault exactly when it is named once it stands in front.
+#[test]
+fn a_four_names_the_first_axis_at_fault() {
+    let mut random = Random::new(5);
+    let mut met = [0; 4];
+    for round in 0..40_000 {
+        let call = match round % 2 {
+            0 => boxes::refused(&mut random),
+            _ => boxes::too_large(&mut random).0,
+        };
+        let names = |call: &PlanCall| {
+            let refused = plan(&call.bounds, call.c, call.levels).err()?;
+            (refused.number == 4).then_some(refused.names)
+        };
+        if let Some(named) = names(&call) {
+            let first = (0..3).find(|axis| names(&in_front(&call, *axis)) == Some(0));
+            assert_eq!(named, first.map_or(OCTANTS, |axis| axis as u32));
+            met[named as usize] += 1;
+        }
+    }
+    assert!(met.iter().all(|times| *times > 1_000), "{met:?}");
 }
 
 fn octrees(times: usize, mut test: impl FnMut(&PlanCall, Plan, Vec<u8>)) {

@@ -1,8 +1,8 @@
 -- The refusals of the step grid, its outcome as a whole, and its octree: refusal 7, and where coarser leaves are met. Assumes nothing.
 use mathlib.Core.Path.{_≡_, refl, sym, ap, _∙_}
 use mathlib.Core.Logic.{_⊎_, inl, inr, _↔_}
-use mathlib.Core.Bool.{Bool, true, false, cond, not}
-use mathlib.Core.List.{List, [], _++_, append-nil}
+use mathlib.Core.Bool.{Bool, true, false, cond, not, true≢false}
+use mathlib.Core.List.{List, [], _∷_, _++_, append-nil}
 use Prim.Native.Nat.{ℕ, suc, _<_}
 use native.Mathlib.Omega.{arith}
 use borrow.Author.Tests.{eqb-true, eq-eqb}
@@ -11,7 +11,7 @@ use lib.ListN.{length}
 use lib.Ieee.{Float}
 use Rattle.refusals.specs.Rows.{first, InTurn, proper, under, rising, caused, lower, unless}
 use Rattle.refusals.specs.Causes.{eachRows, answerRows}
-use Rattle.refusals.proofs.Rows.{number-rows, goes-on, in-turn, exactly, first-under}
+use Rattle.refusals.proofs.Rows.{number-rows, goes-on, in-turn, given as first-given, exactly, first-under}
 use Rattle.lists.specs.Tables.{allAtMost, Determined}
 use Rattle.lists.proofs.Bools.{bool-cases, clash}
 use Rattle.lists.proofs.Lent.{determined}
@@ -30,7 +30,7 @@ use Rattle.plan.specs.declared.Bounds.{Bounds}
 use Rattle.plan.specs.declared.Plan.{Plan}
 use Rattle.plan.specs.declared.Planned.{Planned}
 use Rattle.plan.specs.declared.Planned.the-variants as planned
-use Rattle.grid.specs.Step.{cellCount, vertexCount, lacksCells, lacksVertices, gradedRows, splitRows, fillRows, tableRows, gridRows, numberOf, filledOf, gridOf, GridDone}
+use Rattle.grid.specs.Step.{cellCount, vertexCount, lacksCells, lacksVertices, gradedRows, splitRows, fillRows, tableRows, gridRows, numberOf, valuesOf, filledOf, refusedWith, gridOf, GridDone}
 use Rattle.grid.specs.Octrees.{splitTree, IsGradedOctree, NoGradedOctree}
 use Rattle.grid.specs.declared.Gridded.{Gridded}
 use Rattle.grid.specs.declared.Gridded.the-variants.{Done, Refused, NoCells, NoVertices}
@@ -47,6 +47,21 @@ fill-number p s cells triples points work = go (lacksCells (cellCount p s) cells
     go false true = refl
     go false false = refl
 
+-- the number with a plan: never a 4
+module _ (p : Plan) (s : List ℕ) (cells triples points work : ℕ) where
+  abbrev tableAnswer : Gridded
+  tableAnswer = unless (first (splitRows p s)) refusedWith (filledOf p s cells triples points work)
+
+  table-number : numberOf tableAnswer ≡ first (tableRows p s cells triples points work)
+  unfolding splitRows eachRows answerRows gradedRows proper
+  table-number =
+      number-rows numberOf refusedWith (filledOf p s cells triples points work) (splitRows p s) (fillRows p s cells triples points work) refl (λ k. refl)
+      (fill-number p s cells triples points work)
+
+  table-not-four : numberOf tableAnswer ≡ 4 → ⊥
+  unfolding rising caused splitRows eachRows answerRows gradedRows fillRows
+  table-not-four e = true≢false (sym (first-given 4 1 (tableRows p s cells triples points work) refl (omega arith) (sym table-number ∙ e) .0))
+
 module _ (b : Bounds) (c : Float) (levels : ℕ) (s C T P w : List ℕ) where
   -- the number is that of the first row whose cause is there
   pub number-is : numberOf (gridOf b c levels s C T P w) ≡ first (gridRows b c levels s C T P w)
@@ -54,13 +69,12 @@ module _ (b : Bounds) (c : Float) (levels : ℕ) (s C T P w : List ℕ) where
   number-is = go (planOf b c levels) (refusals.number-is b c levels)
     where
       go : (a : Planned) → plan.numberOf a ≡ first (planRows b c levels)
-          → numberOf (onPlan a Refused (λ p. unless (first (splitRows p s)) Refused (filledOf p s (length C) (length T) (length P) (length w))))
-          ≡ first (planRows b c levels ++ onPlan a (λ n. []) (λ p. tableRows p s (length C) (length T) (length P) (length w)))
+          → numberOf (onPlan a Refused (λ p. unless (first (splitRows p s)) refusedWith (filledOf p s (length C) (length T) (length P) (length w))))
+          ≡ first (planRows b c levels ++ onPlan a (λ why. []) (λ p. tableRows p s (length C) (length T) (length P) (length w)))
       go (planned.Ready p) e =
-          number-rows numberOf Refused (filledOf p s (length C) (length T) (length P) (length w)) (splitRows p s) (fillRows p s (length C) (length T) (length P) (length w))
-          (unfold splitRows in unfold eachRows in unfold answerRows in unfold gradedRows in unfold proper in refl) (λ k. refl) (fill-number p s (length C) (length T) (length P) (length w))
+          table-number p s (length C) (length T) (length P) (length w)
           ∙ sym (goes-on (planRows b c levels) (tableRows p s (length C) (length T) (length P) (length w)) (unfold proper in unfold planRows in refl) e refl)
-      go (planned.Refused n) e = e ∙ ap first (sym (append-nil (planRows b c levels)))
+      go (planned.Refused why) e = e ∙ ap first (sym (append-nil (planRows b c levels)))
 
   -- a number is given exactly when a row of this number has its cause and no row before it has one
   pub grid-in-turn : (k : ℕ) → 0 < k → (numberOf (gridOf b c levels s C T P w) ≡ k) ↔ InTurn k (gridRows b c levels s C T P w)
@@ -71,9 +85,17 @@ module _ (b : Bounds) (c : Float) (levels : ℕ) (s C T P w : List ℕ) where
       → (numberOf (gridOf b c levels s C T P w) ≡ k) ↔ ((caused k (gridRows b c levels s C T P w) ≡ true) × (lower k (gridRows b c levels s C T P w) ≡ false))
   grid-exactly = exactly (gridRows b c levels s C T P w) (rise (planOf b c levels)) number-is
     where
-      rise : (a : Planned) → rising 1 (planRows b c levels ++ onPlan a (λ n. []) (λ p. tableRows p s (length C) (length T) (length P) (length w))) ≡ true
+      rise : (a : Planned) → rising 1 (planRows b c levels ++ onPlan a (λ why. []) (λ p. tableRows p s (length C) (length T) (length P) (length w))) ≡ true
       rise (planned.Ready p) = unfold rising in unfold planRows in unfold splitRows in unfold eachRows in unfold answerRows in unfold gradedRows in unfold fillRows in refl
-      rise (planned.Refused n) = unfold rising in unfold planRows in refl
+      rise (planned.Refused why) = unfold rising in unfold planRows in refl
+
+  -- a 4 of the grid is the plan's, and names what that names
+  pub grid-fault : {r : Gridded} {C′ T′ P′ w′ : List ℕ} → GridDone b c levels s C T P w r C′ T′ P′ w′ → numberOf r ≡ 4
+      → (plan.numberOf (planOf b c levels) ≡ 4) × (valuesOf r ≡ plan.faultOf (planOf b c levels) ∷ [])
+  unfolding gridOf
+  grid-fault g =
+      refusals.handed-up numberOf valuesOf Refused (λ p. tableAnswer p s (length C) (length T) (length P) (length w)) b c levels (λ why. refl) (λ why. refl)
+      (λ p. table-not-four p s (length C) (length T) (length P) (length w)) (g .answer)
 
   -- the contract allows one outcome
   pub grid-one : Determined (λ (z : Gridded × List ℕ × List ℕ × List ℕ × List ℕ). GridDone b c levels s C T P w (z .0) (z .1) (z .2) (z .3) (z .4))

@@ -20,7 +20,7 @@ use Rattle.lattice.specs.Lattice.{latticeCells, latticeVertices, latticeTable}
 use Rattle.plan.specs.Vertices.{dimsOf, tripleAt, pointAt, spread}
 use Rattle.lattice.specs.Parts.{verticesOf}
 use Rattle.grid.specs.Grid.{gridCells, gridVertices, vertexNumber, cellTable, tripleTable, pointTable}
-use Rattle.grid.specs.Step.{cellCount, vertexCount, lacksCells, lacksVertices, gradedRows, splitRows, filledOf, gridOf, Filled, GridDone}
+use Rattle.grid.specs.Step.{cellCount, vertexCount, lacksCells, lacksVertices, gradedRows, splitRows, filledOf, refusedWith, gridOf, Filled, GridDone}
 use Rattle.grid.specs.declared.Gridded.the-variants.{Done, Refused, NoCells, NoVertices}
 use lib.Ieee.{Float}
 use Rattle.refusals.specs.Rows.{first, causeAt, proper}
@@ -36,6 +36,7 @@ use Rattle.plan.proofs.Ready.{ready, ready-levels}
 use Rattle.plan.specs.declared.Bounds.{Bounds}
 use Rattle.grid.specs.Parts.{rootsIn, Stocked}
 use Rattle.grid.specs.declared.Gridded.{Gridded}
+use Rattle.plan.specs.declared.Refusal.{Refusal}
 use Rattle.plan.specs.declared.Planned.the-variants as planned
 
 -- ---- lengths
@@ -262,23 +263,23 @@ module _ (b : Bounds) (c : Float) (levels : ℕ) (p : Plan) (e : planOf b c leve
 -- ---- the step
 
 module _ (b : Bounds) (c : Float) (levels : ℕ) (s C T P w : List ℕ) where
-  pub plan-refused : {m k : ℕ} → planOf b c levels ≡ planned.Refused m → k ≡ m → GridDone b c levels s C T P w (Refused k) C T P w
+  pub plan-refused : {m k : Refusal} → planOf b c levels ≡ planned.Refused m → k ≡ m → GridDone b c levels s C T P w (Refused k) C T P w
   unfolding gridOf
   plan-refused {m} {k} e q =
       let a : gridOf b c levels s C T P w ≡ Refused k = rw (e, q) refl in
       record { answer = sym a; cells = rw a refl; triples = rw a refl; points = rw a refl; work = rw a refl }
 
   module _ (p : Plan) (e : planOf b c levels ≡ planned.Ready p) where
-    pub split-refused : {k : ℕ} → k ≡ first (splitRows p s) → k ≢ 0 → GridDone b c levels s C T P w (Refused k) C T P w
+    pub split-refused : {k : ℕ} → k ≡ first (splitRows p s) → k ≢ 0 → GridDone b c levels s C T P w (refusedWith k) C T P w
     unfolding gridOf
     split-refused {k} q d =
-        let a : gridOf b c levels s C T P w ≡ Refused k = rw (e, ← q) (unless-some k Refused _ d) in
+        let a : gridOf b c levels s C T P w ≡ refusedWith k = rw (e, ← q) (unless-some k refusedWith _ d) in
         record { answer = sym a; cells = rw a refl; triples = rw a refl; points = rw a refl; work = rw a refl }
 
     pub filled : {r : Gridded} {C′ T′ P′ w′ : List ℕ} → first (splitRows p s) ≡ 0 → Filled p s C T P w r C′ T′ P′ w′ → GridDone b c levels s C T P w r C′ T′ P′ w′
     unfolding gridOf
     filled {r} z f =
-        let a : gridOf b c levels s C T P w ≡ r = rw e (unless-none (first (splitRows p s)) Refused _ z) ∙ sym (f .answer) in
+        let a : gridOf b c levels s C T P w ≡ r = rw e (unless-none (first (splitRows p s)) refusedWith _ z) ∙ sym (f .answer) in
         record {
           answer = sym a;
           cells = rw (a, e) (f .cells);

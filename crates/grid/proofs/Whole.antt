@@ -22,6 +22,7 @@ use Rattle.plan.specs.Step.{planOf, onPlan}
 use Rattle.plan.proofs.Ready.{ready-levels}
 use Rattle.plan.specs.declared.Bounds.{Bounds}
 use Rattle.plan.specs.declared.Plan.{Plan}
+use Rattle.plan.specs.declared.Refusal.{Refusal}
 use Rattle.plan.specs.declared.Planned.{Planned}
 use Rattle.plan.specs.declared.Planned.the-variants as planned
 use Rattle.sides.specs.Parts.{Taken}
@@ -31,7 +32,7 @@ use Rattle.lattice.proofs.Formulas.{cells-count, vertices-count}
 use Rattle.lattice.proofs.Named.{named, listed}
 use Rattle.plan.specs.Vertices.{dimsOf, tripleAt, pointAt, spread}
 use Rattle.grid.specs.Grid.{gridVertices, cellTable, tripleTable, pointTable}
-use Rattle.grid.specs.Step.{cellCount, vertexCount, lacksCells, lacksVertices, splitRows, filledOf, gridOf, resultAfter, GridDone}
+use Rattle.grid.specs.Step.{cellCount, vertexCount, lacksCells, lacksVertices, splitRows, filledOf, refusedWith, gridOf, resultAfter, GridDone}
 use Rattle.grid.specs.Whole.{along, threeAt, OctreeVertices, LatticeVertices, Whole}
 use Rattle.grid.specs.declared.Gridded.{Gridded}
 use Rattle.grid.specs.declared.Gridded.the-variants.{Done, Refused, NoCells, NoVertices}
@@ -111,7 +112,7 @@ module _ (p : Plan) (s C T P : List ℕ) (h : 1 ≤ p .levels → Taken s (roots
 
 -- ---- the step
 
-refused-not : {k n v : ℕ} → Refused k ≡ Done n v → ⊥
+refused-not : {why : Refusal} {n v : ℕ} → Refused why ≡ Done n v → ⊥
 refused-not e = let clash : _≡_ {A = ℕ} 0 1 = cc in absurd (omega arith)
 
 filled-counts : (p : Plan) (s : List ℕ) (cells triples points work n v : ℕ) → filledOf p s cells triples points work ≡ Done n v → (n ≡ cellCount p s) × (v ≡ vertexCount p s)
@@ -138,16 +139,16 @@ module _ (b : Bounds) (c : Float) (levels : ℕ) (s C T P w : List ℕ) where
       rest : Plan → Gridded
       rest p = filledOf p s (length C) (length T) (length P) (length w)
 
-      go : (a : Planned) → planOf b c levels ≡ a → onPlan a Refused (λ p. unless (first (splitRows p s)) Refused (filledOf p s (length C) (length T) (length P) (length w))) ≡ Done n v
+      go : (a : Planned) → planOf b c levels ≡ a → onPlan a Refused (λ p. unless (first (splitRows p s)) refusedWith (filledOf p s (length C) (length T) (length P) (length w))) ≡ Done n v
           → (p : Plan) × Answered b c levels s n v p
       go (planned.Refused k) q e = absurd (refused-not e)
       go (planned.Ready p) q e = (p, accept (eqOr (first (splitRows p s)) 0))
         where
           accept : (first (splitRows p s) ≡ 0) ⊎ (first (splitRows p s) ≢ 0) → Answered b c levels s n v p
           accept (inl z) =
-              let f = filled-counts p s (length C) (length T) (length P) (length w) n v (sym (unless-none (first (splitRows p s)) Refused (rest p) z) ∙ e) in
+              let f = filled-counts p s (length C) (length T) (length P) (length w) n v (sym (unless-none (first (splitRows p s)) refusedWith (rest p) z) ∙ e) in
               record { ready = q; accepted = z; cells = f .0; vertices = f .1 }
-          accept (inr k) = absurd (refused-not (sym (unless-some (first (splitRows p s)) Refused (rest p) k) ∙ e))
+          accept (inr k) = absurd (refused-not (sym (unless-some (first (splitRows p s)) refusedWith (rest p) k) ∙ e))
 
   module _ {r : Gridded} {C′ T′ P′ w′ : List ℕ} (g : GridDone b c levels s C T P w r C′ T′ P′ w′) where
     module _ (n v : ℕ) (d : r ≡ Done n v) where

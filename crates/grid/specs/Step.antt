@@ -11,9 +11,10 @@ use Rattle.refusals.specs.Rows.{Row, _when_, first, unless}
 use Rattle.refusals.specs.Causes.{eachRows, answerRows}
 use Rattle.lists.specs.Tables.{front, zeroed}
 use Rattle.octants.specs.Judge.{isGraded}
-use Rattle.plan.specs.Step.{planOf, planRows, onPlan}
+use Rattle.plan.specs.Step.{planOf, planRows, refusalNumber, refusalValues, onPlan}
 use Rattle.plan.specs.declared.Bounds.{Bounds}
 use Rattle.plan.specs.declared.Plan.{Plan}
+use Rattle.plan.specs.declared.Refusal.the-variants.{Number}
 use Rattle.plan.specs.Vertices.{dimsOf}
 use Rattle.grid.specs.Grid.{gridCells, gridVertices, cellTable, tripleTable, pointTable}
 use Rattle.grid.specs.declared.Gridded.{Gridded}
@@ -53,18 +54,18 @@ tableRows p s cells triples points work = splitRows p s ++ fillRows p s cells tr
 -- all refusals, the lowest number first
 abbrev pub gridRows : Bounds → Float → ℕ → List ℕ → (C T P w : List ℕ) → List Row
 gridRows b c levels s C T P w =
-    planRows b c levels ++ onPlan (planOf b c levels) (λ n. []) (λ p. tableRows p s (length C) (length T) (length P) (length w))
+    planRows b c levels ++ onPlan (planOf b c levels) (λ why. []) (λ p. tableRows p s (length C) (length T) (length P) (length w))
 
--- the number and values of each answer: rules 11.3, 11.4
+-- the number and values of each answer: rules 11.3, 11.4, R2.2
 abbrev pub numberOf : Gridded → ℕ
 numberOf (Done cells vertices) = 0
-numberOf (Refused number) = number
+numberOf (Refused why) = refusalNumber why
 numberOf (NoCells cells) = 9
 numberOf (NoVertices cells vertices) = 9
 
 abbrev pub valuesOf : Gridded → List ℕ
 valuesOf (Done cells vertices) = cells ∷ vertices ∷ []
-valuesOf (Refused number) = []
+valuesOf (Refused why) = refusalValues why
 valuesOf (NoCells cells) = cells ∷ 0 ∷ []
 valuesOf (NoVertices cells vertices) = cells ∷ vertices ∷ []
 
@@ -74,24 +75,28 @@ filledOf p s cells triples points work =
     cond (lacksCells (cellCount p s) cells work) (NoCells (cellCount p s))
     (cond (lacksVertices (vertexCount p s) triples points) (NoVertices (cellCount p s) (vertexCount p s)) (Done (cellCount p s) (vertexCount p s)))
 
+-- refused by its split table, with nothing but a number
+abbrev pub refusedWith : ℕ → Gridded
+refusedWith number = Refused (Number number)
+
 unfoldable pub gridOf : Bounds → Float → ℕ → List ℕ → (C T P w : List ℕ) → Gridded
 gridOf b c levels s C T P w =
     onPlan (planOf b c levels) Refused
-    (λ p. unless (first (splitRows p s)) Refused (filledOf p s (length C) (length T) (length P) (length w)))
+    (λ p. unless (first (splitRows p s)) refusedWith (filledOf p s (length C) (length T) (length P) (length w)))
 
 -- ---- the tables after
 
 -- a result table is new on an answer, else as lent
 abbrev pub resultAfter : Gridded → List ℕ → List ℕ → List ℕ
 resultAfter (Done cells vertices) new lent = front (length new) new lent
-resultAfter (Refused number) new lent = lent
+resultAfter (Refused why) new lent = lent
 resultAfter (NoCells cells) new lent = lent
 resultAfter (NoVertices cells vertices) new lent = lent
 
 -- the work is zero, four entries a cell, on an answer and where there is no room for the vertices, else as lent
 abbrev pub workAfter : Gridded → List ℕ → List ℕ
 workAfter (Done cells vertices) lent = zeroed (4 * cells) lent
-workAfter (Refused number) lent = lent
+workAfter (Refused why) lent = lent
 workAfter (NoCells cells) lent = lent
 workAfter (NoVertices cells vertices) lent = zeroed (4 * cells) lent
 
@@ -105,7 +110,7 @@ pub record Filled (p : Plan) (s C T P w : List ℕ) (r : Gridded) (C′ T′ P�
 
 -- the tables of the plan that is made, where there is one
 abbrev pub planned : Bounds → Float → ℕ → (Plan → List ℕ) → List ℕ
-planned b c levels table = onPlan (planOf b c levels) (λ n. []) table
+planned b c levels table = onPlan (planOf b c levels) (λ why. []) table
 
 pub record GridDone (b : Bounds) (c : Float) (levels : ℕ) (s C T P w : List ℕ) (r : Gridded) (C′ T′ P′ w′ : List ℕ) : Type 0 where
   pub answer : r ≡ gridOf b c levels s C T P w

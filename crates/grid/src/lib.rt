@@ -15,12 +15,13 @@ use octree::Roots;
 use plan::Bounds;
 use plan::Plan;
 use plan::Planned;
+use plan::Refusal;
 
-// The outcome of `grid`: how many cells and vertices there are; refused, with its number; no room or work for so many cells;
+// The outcome of `grid`: how many cells and vertices there are; refused, as a plan is; no room or work for so many cells;
 // no room for so many vertices.
 pub enum Gridded {
     Done(u64, u64),
-    Refused(u32),
+    Refused(Refusal),
     NoCells(u64),
     NoVertices(u64, u64),
 }
@@ -199,7 +200,7 @@ fn octree_grid(
     )
 }
 
-// The grid of a box, a cell size, levels and a split table. Refused with 1 to 7; with 9 and the cells where `cells` or `work`, four
+// The grid of a box, a cell size, levels and a split table. Refused with 1 to 7, the 4 carrying what the plan's does; with 9 and the cells where `cells` or `work`, four
 // entries a cell, is too short, all tables as lent; with 9, the cells and the vertices where `triples` or `points` is too short, and on
 // an answer: the work entries are then zero. Entries past the need are never written.
 pub fn grid(
@@ -216,11 +217,11 @@ pub fn grid(
 {
     let a = Plan::new(b, c, levels);
     let Planned::Ready(p) = a else {
-        return Gridded::Refused(a.number());
+        return Gridded::Refused(a.refusal());
     };
     let number = judge(split, p);
     if number != 0 {
-        return Gridded::Refused(number);
+        return Gridded::Refused(Refusal::Number(number));
     }
     if levels == 0 {
         return lattice_grid(p, cells, triples, points, work);

@@ -10,12 +10,14 @@ use lib.Ieee.Positive.{positive}
 use Rattle.space.specs.Space.{Axis, ax, ay, az}
 use Rattle.space.proofs.Space.{on-all}
 use Rattle.space.specs.Levels.{mostLevels, mostRoots, mostOctants}
-use Rattle.plan.specs.Step.{mostLattice, latticeScale, octreeScale, scaleOf, stretchAt, straightBox, onAxis, counted, axesOf, planOf, low, high}
+use Rattle.plan.specs.Step.{mostLattice, latticeScale, octreeScale, scaleOf, stretchAt, straightBox, octantsFault, onAxis, counted, axesOf, planOf, low, high}
 use Rattle.plan.specs.Parts.{Planful}
 use Rattle.plan.specs.declared.Bounds.{Bounds}
 use Rattle.plan.specs.declared.Plan.{Plan}
 use Rattle.plan.specs.declared.Stretch.{Stretch}
 use Rattle.plan.specs.declared.Stretch.the-variants.{Covers, TooLong}
+use Rattle.plan.specs.declared.Refusal.{Refusal}
+use Rattle.plan.specs.declared.Refusal.the-variants.{Number, TooLarge}
 use Rattle.plan.specs.declared.Planned.{Planned}
 use Rattle.plan.specs.declared.Planned.the-variants.{Ready, Refused}
 use Rattle.plan.proofs.Axes.{stretch-fits}
@@ -35,11 +37,11 @@ scale-fits c levels n p q = go (eqb levels 0) refl p q
     go false e p q = record { some = p; few = omega arith; roots = λ h. q }
 
 -- an axis that is covered, and what follows it
-on-axis : (b : Bounds) (c : Float) (levels : ℕ) (a : Axis) (k : Float → ℕ → Planned) (p : Plan) → onAxis (stretchAt (scaleOf c levels) b c a) k ≡ Ready p
+on-axis : (b : Bounds) (c : Float) (levels : ℕ) (a : Axis) (k : Float → ℕ → Planned) (p : Plan) → onAxis a (stretchAt (scaleOf c levels) b c a) k ≡ Ready p
     → (o : Float) × (n : ℕ) × (Along levels n) × (k o n ≡ Ready p)
 on-axis b c levels a k p e = go (stretchAt (scaleOf c levels) b c a) refl e
   where
-    go : (s : Stretch) → stretchAt (scaleOf c levels) b c a ≡ s → onAxis s k ≡ Ready p → (o : Float) × (n : ℕ) × (Along levels n) × (k o n ≡ Ready p)
+    go : (s : Stretch) → stretchAt (scaleOf c levels) b c a ≡ s → onAxis a s k ≡ Ready p → (o : Float) × (n : ℕ) × (Along levels n) × (k o n ≡ Ready p)
     go TooLong f g =
         let no : _≡_ {A = ℕ} 0 1 = cc in
         absurd (omega arith)
@@ -51,7 +53,7 @@ counted-ready : (q p : Plan) → counted q ≡ Ready p → (q ≡ p) × (q .octa
 unfolding counted
 counted-ready q p e = go (leb (q .octants) mostOctants) refl e
   where
-    go : (t : Bool) → leb (q .octants) mostOctants ≡ t → cond t (Ready q) (Refused 4) ≡ Ready p → (q ≡ p) × (q .octants ≤ mostOctants)
+    go : (t : Bool) → leb (q .octants) mostOctants ≡ t → cond t (Ready q) (Refused (TooLarge octantsFault)) ≡ Ready p → (q ≡ p) × (q .octants ≤ mostOctants)
     go true f g =
         let same : q ≡ p = cc in
         (same, leb-true (q .octants) mostOctants f)
@@ -81,13 +83,13 @@ planned-ready : (b : Bounds) (c : Float) (levels : ℕ) (p : Plan) → planOf b 
 unfolding planOf
 planned-ready b c levels p e = go (positive c) (straightBox b) (leb levels mostLevels) refl e
   where
-    none : {n : ℕ} → Refused n ≡ Ready p → (p .levels ≡ levels) × Planful p
+    none : {why : Refusal} → Refused why ≡ Ready p → (p .levels ≡ levels) × Planful p
     none g =
         let no : _≡_ {A = ℕ} 0 1 = cc in
         absurd (omega arith)
 
     go : (q r t : Bool) → leb levels mostLevels ≡ t
-        → cond q (cond r (cond t (axesOf (scaleOf c levels) b c levels) (Refused 3)) (Refused 2)) (Refused 1) ≡ Ready p → (p .levels ≡ levels) × Planful p
+        → cond q (cond r (cond t (axesOf (scaleOf c levels) b c levels) (Refused (Number 3))) (Refused (Number 2))) (Refused (Number 1)) ≡ Ready p → (p .levels ≡ levels) × Planful p
     go true true true f g = axes-ready b c levels p (leb-true levels mostLevels f) g
     go true true false f g = none g
     go true false t f g = none g

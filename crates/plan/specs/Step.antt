@@ -1,9 +1,11 @@
 -- The plan: from a box, a cell size c and a number of levels to an origin, a unit and dimensions, or to a refusal. Every operation on
 -- floats is one of binary32, in the order written.
-use Prim.Native.Nat.{ℕ, _*_, _^_, max}
-use mathlib.Core.Bool.{Bool, not, _&&_, cond}
+use mathlib.Core.Path.{_≡_}
+use Prim.Native.Nat.{ℕ, _*_, _^_, _<_, max}
+use mathlib.Core.Bool.{Bool, true, false, not, _&&_, cond}
 use mathlib.Core.List.{List, [], _∷_, _++_}
 use lib.Dec.{leb, ltb, eqb}
+use lib.ListN.{getD}
 use lib.Ieee.{Float, binary32, neg, lt}
 use lib.Ieee.Scale.{finite}
 use lib.Ieee.Positive.{positive}
@@ -17,6 +19,8 @@ use Rattle.plan.specs.declared.Scale.{Scale}
 use Rattle.plan.specs.declared.Stretch.{Stretch}
 use Rattle.plan.specs.declared.Stretch.the-variants.{Covers, TooLong}
 use Rattle.plan.specs.declared.Plan.{Plan}
+use Rattle.plan.specs.declared.Refusal.{Refusal}
+use Rattle.plan.specs.declared.Refusal.the-variants.{Number, TooLarge}
 use Rattle.plan.specs.declared.Planned.{Planned}
 use Rattle.plan.specs.declared.Planned.the-variants.{Ready, Refused}
 
@@ -99,19 +103,28 @@ fitsAt s b c a = fitsOn s c (low b a) (high b a)
 abbrev pub stretchAt : Scale → Bounds → Float → Axis → Stretch
 stretchAt s b c a = stretchOf s c (low b a) (high b a)
 
--- refusal 4 of an axis that does not fit, else what is made of its origin and dimension
-abbrev pub onAxis : Stretch → (Float → ℕ → Planned) → Planned
-onAxis TooLong k = Refused 4
-onAxis (Covers o n) k = k o n
+-- what a 4 says of an axis, and of N: rule R2.1
+abbrev pub faultAt : Axis → ℕ
+faultAt ax = 0
+faultAt ay = 1
+faultAt az = 2
+
+abbrev pub octantsFault : ℕ
+octantsFault = 3
+
+-- refusal 4 of axis a where it does not fit, else what is made of its origin and dimension
+abbrev pub onAxis : Axis → Stretch → (Float → ℕ → Planned) → Planned
+onAxis a TooLong k = Refused (TooLarge (faultAt a))
+onAxis a (Covers o n) k = k o n
 
 unfoldable pub counted : Plan → Planned
-counted p = cond (leb (p .octants) mostOctants) (Ready p) (Refused 4)
+counted p = cond (leb (p .octants) mostOctants) (Ready p) (Refused (TooLarge octantsFault))
 
 unfoldable pub axesOf : Scale → Bounds → Float → ℕ → Planned
 axesOf s b c levels =
-    onAxis (stretchAt s b c ax) λ ox nx.
-    onAxis (stretchAt s b c ay) λ oy ny.
-    onAxis (stretchAt s b c az) λ oz nz.
+    onAxis ax (stretchAt s b c ax) λ ox nx.
+    onAxis ay (stretchAt s b c ay) λ oy ny.
+    onAxis az (stretchAt s b c az) λ oz nz.
     counted
     (record {
       ox = ox;
@@ -128,24 +141,42 @@ axesOf s b c levels =
 unfoldable pub planOf : Bounds → Float → ℕ → Planned
 planOf b c levels =
     cond (positive c)
-    (cond (straightBox b) (cond (leb levels mostLevels) (axesOf (scaleOf c levels) b c levels) (Refused 3)) (Refused 2))
-    (Refused 1)
+    (cond (straightBox b) (cond (leb levels mostLevels) (axesOf (scaleOf c levels) b c levels) (Refused (Number 3))) (Refused (Number 2)))
+    (Refused (Number 1))
 
--- the number and values of each answer: rules 11.3, 11.4
+-- the number and values of a refusal: rules 11.4, R2.1
+abbrev pub refusalNumber : Refusal → ℕ
+refusalNumber (Number n) = n
+refusalNumber (TooLarge fault) = 4
+
+abbrev pub refusalValues : Refusal → List ℕ
+refusalValues (Number n) = []
+refusalValues (TooLarge fault) = fault ∷ []
+
+-- of each answer; the number 0 stands for none
+abbrev pub refusalOf : Planned → Refusal
+refusalOf (Ready p) = Number 0
+refusalOf (Refused why) = why
+
 abbrev pub numberOf : Planned → ℕ
-numberOf (Ready p) = 0
-numberOf (Refused n) = n
+numberOf a = refusalNumber (refusalOf a)
+
+-- the axis or N that a 4 names; 0 in every other answer
+abbrev pub faultOf : Planned → ℕ
+faultOf a = getD (refusalValues (refusalOf a)) 0 0
 
 -- the plan, all of whose numbers are 0 where it is refused
+abbrev pub noPlan : Plan
+noPlan = record { ox = zero32; oy = zero32; oz = zero32; half = zero32; nx = 0; ny = 0; nz = 0; levels = 0; octants = 0 }
+
 abbrev pub valuesOf : Planned → Plan
 valuesOf (Ready p) = p
-valuesOf (Refused n) =
-    record { ox = zero32; oy = zero32; oz = zero32; half = zero32; nx = 0; ny = 0; nz = 0; levels = 0; octants = 0 }
+valuesOf (Refused why) = noPlan
 
--- the refusal's number handed up, else what is made of the plan
-abbrev pub onPlan : {A : Type 0} → Planned → (ℕ → A) → (Plan → A) → A
+-- the refusal handed up, else what is made of the plan
+abbrev pub onPlan : {A : Type 0} → Planned → (Refusal → A) → (Plan → A) → A
 onPlan (Ready p) refused answer = answer p
-onPlan (Refused n) refused answer = refused n
+onPlan (Refused why) refused answer = refused why
 
 -- ---- exactly when
 
@@ -155,6 +186,16 @@ dimAt s b c a = dimOf s c (low b a) (high b a)
 
 abbrev pub dimsAt : Scale → Bounds → Float → Pos
 dimsAt s b c = pos (dimAt s b c ax) (dimAt s b c ay) (dimAt s b c az)
+
+-- axis a is the first at fault: it does not fit, and those before it do
+pub record FirstAtFault (fits : Axis → Bool) (a : Axis) : Type 0 where
+  pub fault : fits a ≡ false
+  pub before : (e : Axis) → faultAt e < faultAt a → fits e ≡ true
+
+-- only N is at fault: every axis fits, and there are more octants than the bound
+pub record OctantsAtFault (fits : Axis → Bool) (octants : ℕ) : Type 0 where
+  pub fit : (a : Axis) → fits a ≡ true
+  pub above : mostOctants < octants
 
 -- all three axes fit, and the octants are in their bound
 unfoldable pub fitsAll : Scale → Bounds → Float → ℕ → Bool

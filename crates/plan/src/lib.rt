@@ -4,7 +4,7 @@ ghost use Prim.Native.Nat.{_≤_, _^_, max};
 ghost use Rattle.space.specs.Space.{pos};
 ghost use Rattle.space.specs.Levels.{mostLevels, off};
 ghost use Rattle.plan.specs.Vertices.{placeOf};
-ghost use Rattle.plan.specs.Step.{allFinite, scaleOf, stretchOf, axesOf, straight, straightBox, planOf, numberOf};
+ghost use Rattle.plan.specs.Step.{allFinite, scaleOf, stretchOf, axesOf, straight, straightBox, planOf, refusalOf};
 ghost use Rattle.plan.specs.Parts.{Small, Few};
 
 // A box: its lower and its upper bounds along x, y and z.
@@ -48,19 +48,26 @@ pub struct Plan {
     pub octants: u32,
 }
 
+// Why there is no plan, and why a step that makes one refuses: a number; 4, with the first axis at fault, or 3 where only the octants
+// are too many.
+pub enum Refusal {
+    Number(u32),
+    TooLarge(u32),
+}
+
 pub enum Planned {
     Ready(Plan),
-    Refused(u32),
+    Refused(Refusal),
 }
 
 impl Planned {
-    // The number of the refusal, and 0 where the plan is ready.
-    pub fn number(self) -> u32
-        ensures { λ r. ⌜ r ≡ numberOf self ⌝ }
+    // The refusal, with the number 0 where the plan is ready.
+    pub fn refusal(self) -> Refusal
+        ensures { λ r. ⌜ r ≡ refusalOf self ⌝ }
     {
         match self {
-            Planned::Ready(_) => 0,
-            Planned::Refused(n) => n,
+            Planned::Ready(_) => Refusal::Number(0),
+            Planned::Refused(why) => why,
         }
     }
 }
@@ -184,17 +191,17 @@ fn over(s: Scale, b: Bounds, c: f32, levels: u32) -> Planned
     ensures { λ r. ⌜ r ≡ axesOf s b c levels ⌝ }
 {
     let Stretch::Covers(ox, nx) = along(s, c, b.x0, b.x1) else {
-        return Planned::Refused(4);
+        return Planned::Refused(Refusal::TooLarge(0));
     };
     let Stretch::Covers(oy, ny) = along(s, c, b.y0, b.y1) else {
-        return Planned::Refused(4);
+        return Planned::Refused(Refusal::TooLarge(1));
     };
     let Stretch::Covers(oz, nz) = along(s, c, b.z0, b.z1) else {
-        return Planned::Refused(4);
+        return Planned::Refused(Refusal::TooLarge(2));
     };
     let n = count(nx, ny, nz, levels);
     if n > Plan::OCTANTS as u64 {
-        return Planned::Refused(4);
+        return Planned::Refused(Refusal::TooLarge(3));
     }
     Planned::Ready(Plan {
         ox,
@@ -227,18 +234,18 @@ impl Plan {
 
     pub const OCTANTS: u32 = 1_048_576;
 
-    // The plan of a box, or the number of its refusal.
+    // The plan of a box, or why there is none.
     pub fn new(b: Bounds, c: f32, levels: u32) -> Planned
         ensures { λ r. ⌜ r ≡ planOf b c levels ⌝ }
     {
         if !float32::is_size(c) {
-            return Planned::Refused(1);
+            return Planned::Refused(Refusal::Number(1));
         }
         if !is_box(b) {
-            return Planned::Refused(2);
+            return Planned::Refused(Refusal::Number(2));
         }
         if levels > Plan::LEVELS {
-            return Planned::Refused(3);
+            return Planned::Refused(Refusal::Number(3));
         }
         over(scaled(c, levels), b, c, levels)
     }

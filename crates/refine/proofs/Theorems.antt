@@ -1,7 +1,7 @@
 -- The refusals of the step refine, its outcome as a whole, and demand 3. Assumes nothing.
 use mathlib.Core.Path.{_≡_, refl, sym, ap, _∙_}
 use mathlib.Core.Logic.{_↔_}
-use mathlib.Core.Bool.{Bool, true, false, cond}
+use mathlib.Core.Bool.{Bool, true, false, cond, true≢false}
 use mathlib.Core.List.{List, [], _∷_, _++_, append-nil}
 use Prim.Native.Nat.{ℕ, _<_}
 use native.Mathlib.Omega.{arith}
@@ -11,9 +11,9 @@ use lib.ListN.{length, drop}
 use Rattle.refusals.specs.Rows.{first, InTurn, proper, rising, caused, lower}
 use Rattle.refusals.specs.Causes.{eachRows, answerRows, roomRows}
 use Rattle.lists.specs.Tables.{front, on, Determined}
-use Rattle.refusals.proofs.Rows.{number-rows, goes-on, in-turn, exactly}
+use Rattle.refusals.proofs.Rows.{number-rows, goes-on, in-turn, given, exactly}
 use Rattle.lists.proofs.Lent.{as-new, determined}
-use Rattle.plan.specs.Step.{planOf, planRows, onPlan}
+use Rattle.plan.specs.Step.{planOf, planRows, refusalNumber, onPlan}
 use Rattle.plan.specs.Step as plan
 use Rattle.plan.proofs.Theorems as refusals
 use Rattle.plan.specs.Vertices.{dimsOf}
@@ -29,18 +29,24 @@ use Rattle.octants.specs.Demand.{LeastRefinement}
 use Rattle.octants.proofs.DemandTable.{least-agree, table-least, front-agree}
 use Rattle.octants.specs.Rounds.{Rounds}
 use Rattle.octants.proofs.Rounds.{rounds-refined, rounds-table}
-use Rattle.refine.specs.Step.{crossingRows, refineRows, numberOf, splitOf, answerFor, refinedOf, splitAfter, RefineDone}
+use Rattle.refine.specs.Step.{crossingRows, refineRows, numberOf, valuesOf, splitOf, refusedWith, answerFor, refinedOf, splitAfter, RefineDone}
 use Rattle.refine.specs.declared.Refined.{Refined}
 use Rattle.refine.specs.declared.Refined.the-variants.{Done, Refused, Short}
 
 answer-number : (p : Plan) (C o : List ℕ) → numberOf (answerFor p C o) ≡ first (crossingRows (p .octants) C ++ roomRows (length o) (p .octants))
 unfolding answerFor first roomRows
 answer-number p C o =
-    number-rows numberOf Refused _ (crossingRows (p .octants) C) (roomRows (length o) (p .octants)) (unfold proper in unfold crossingRows in unfold eachRows in unfold answerRows in refl) (λ k. refl) (last (ltb (length o) (p .octants)))
+    number-rows numberOf refusedWith _ (crossingRows (p .octants) C) (roomRows (length o) (p .octants)) (unfold proper in unfold crossingRows in unfold eachRows in unfold answerRows in refl) (λ k. refl) (last (ltb (length o) (p .octants)))
   where
     last : (t : Bool) → numberOf (cond t (Short (p .octants)) (Done (total (splitOf p C)))) ≡ cond t 9 0
     last true = refl
     last false = refl
+
+-- no row of the tables has the number 4
+answer-not-four : (p : Plan) (C o : List ℕ) → numberOf (answerFor p C o) ≡ 4 → ⊥
+unfolding rising caused crossingRows eachRows answerRows roomRows
+answer-not-four p C o e =
+    true≢false (sym (given 4 1 (crossingRows (p .octants) C ++ roomRows (length o) (p .octants)) refl (omega arith) (sym (answer-number p C o) ∙ e) .0))
 
 module _ (b : Bounds) (c : Float) (levels : ℕ) (C o : List ℕ) where
   -- the number is that of the first row whose cause is there
@@ -49,9 +55,9 @@ module _ (b : Bounds) (c : Float) (levels : ℕ) (C o : List ℕ) where
   number-is = go (planOf b c levels) (refusals.number-is b c levels)
     where
       go : (a : Planned) → plan.numberOf a ≡ first (planRows b c levels)
-          → numberOf (onPlan a Refused (λ p. answerFor p C o)) ≡ first (planRows b c levels ++ onPlan a (λ n. []) (λ p. crossingRows (p .octants) C ++ roomRows (length o) (p .octants)))
+          → numberOf (onPlan a Refused (λ p. answerFor p C o)) ≡ first (planRows b c levels ++ onPlan a (λ why. []) (λ p. crossingRows (p .octants) C ++ roomRows (length o) (p .octants)))
       go (planned.Ready p) e = answer-number p C o ∙ sym (goes-on (planRows b c levels) (crossingRows (p .octants) C ++ roomRows (length o) (p .octants)) (unfold proper in unfold planRows in refl) e refl)
-      go (planned.Refused n) e = e ∙ ap first (sym (append-nil (planRows b c levels)))
+      go (planned.Refused why) e = e ∙ ap first (sym (append-nil (planRows b c levels)))
 
   -- a number is given exactly when a row of this number has its cause and no row before it has one
   pub refine-in-turn : (k : ℕ) → 0 < k → (numberOf (refinedOf b c levels C o) ≡ k) ↔ InTurn k (refineRows b c levels C o)
@@ -62,9 +68,9 @@ module _ (b : Bounds) (c : Float) (levels : ℕ) (C o : List ℕ) where
       → (numberOf (refinedOf b c levels C o) ≡ k) ↔ ((caused k (refineRows b c levels C o) ≡ true) × (lower k (refineRows b c levels C o) ≡ false))
   refine-exactly = exactly (refineRows b c levels C o) (rise (planOf b c levels)) number-is
     where
-      rise : (a : Planned) → rising 1 (planRows b c levels ++ onPlan a (λ n. []) (λ p. crossingRows (p .octants) C ++ roomRows (length o) (p .octants))) ≡ true
+      rise : (a : Planned) → rising 1 (planRows b c levels ++ onPlan a (λ why. []) (λ p. crossingRows (p .octants) C ++ roomRows (length o) (p .octants))) ≡ true
       rise (planned.Ready p) = unfold rising in unfold planRows in unfold crossingRows in unfold eachRows in unfold answerRows in unfold roomRows in refl
-      rise (planned.Refused n) = unfold rising in unfold planRows in refl
+      rise (planned.Refused why) = unfold rising in unfold planRows in refl
 
   -- the contract allows one outcome
   pub refine-one : Determined (λ (z : Refined × List ℕ). RefineDone b c levels C o (z .0) (z .1))
@@ -104,9 +110,15 @@ module _ (b : Bounds) (c : Float) (levels : ℕ) (C o : List ℕ) where
       go : (a : Planned) → planOf b c levels ≡ a
           → (p : Plan) × (planOf b c levels ≡ planned.Ready p) × LeastRefinement (p .levels) (dimsOf p) (read (dimsOf p) (p .levels) C) (read (dimsOf p) (p .levels) o′)
       go (planned.Ready p) e = (p, e, rw (h .split) (demand-3 p e z′))
-      go (planned.Refused n) e =
-          let y : n ≡ 0 = rw e at z′ in
-          absurd (omega (arith, refusals.refused-some b c levels n e))
+      go (planned.Refused why) e =
+          let y : refusalNumber why ≡ 0 = rw e at z′ in
+          absurd (omega (arith, refusals.refused-some b c levels why e))
+
+  -- a 4 of refine is the plan's, and names what that names
+  pub refine-fault : {r : Refined} {o′ : List ℕ} → RefineDone b c levels C o r o′ → numberOf r ≡ 4
+      → (plan.numberOf (planOf b c levels) ≡ 4) × (valuesOf r ≡ plan.faultOf (planOf b c levels) ∷ [])
+  unfolding refinedOf
+  refine-fault h = refusals.handed-up numberOf valuesOf Refused (λ p. answerFor p C o) b c levels (λ why. refl) (λ why. refl) (λ p. answer-not-four p C o) (h .answer)
 
 -- the Rust's balance of the octree that the answers split: its rounds over a snapshot end, and wherever they end is our split table
 module _ (p : Plan) (C : List ℕ) where

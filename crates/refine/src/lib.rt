@@ -11,11 +11,12 @@ use octree::Roots;
 use plan::Bounds;
 use plan::Plan;
 use plan::Planned;
+use plan::Refusal;
 
-// The outcome of `refine`: how many octants are split; refused, with its number; no room for so many octants.
+// The outcome of `refine`: how many octants are split; refused, as a plan is; no room for so many octants.
 pub enum Refined {
     Done(u64),
-    Refused(u32),
+    Refused(Refusal),
     Short(u64),
 }
 
@@ -72,20 +73,20 @@ fn refine_table(split: &mut [u8], crossing: &[u8], d: Roots) -> usize
     ones(split)
 }
 
-// Refines the octree of a box where octants are crossed, and grades it. Refused with 1 to 6, and with 9 where `split` is shorter than
-// the octants, which it then carries: `split` is then as lent. Answered with how many octants are split: `split` begins with their
+// Refines the octree of a box where octants are crossed, and grades it. Refused with 1 to 6, the 4 carrying what the plan's does, and
+// with 9 where `split` is shorter than the octants, which it then carries: `split` is then as lent. Answered with how many octants are split: `split` begins with their
 // bytes, and is as lent past them.
 pub fn refine(b: Bounds, c: f32, levels: u32, crossing: &[u8], split: &mut [u8]) -> Refined
     ensures { λ r. ⌜ RefineDone b c levels (now (crossing .entry)) (now (split .entry)) r (now (split .exit)) ⌝ }
 {
     let a = Plan::new(b, c, levels);
     let Planned::Ready(p) = a else {
-        return Refined::Refused(a.number());
+        return Refined::Refused(a.refusal());
     };
     let n = p.octants as usize;
     let number = judge(crossing, n);
     if number != 0 {
-        return Refined::Refused(number);
+        return Refined::Refused(Refusal::Number(number));
     }
     if split.len() < n {
         return Refined::Short(n as u64);

@@ -54,7 +54,7 @@ fn told(a: Answer) -> u64 {
 }
 
 fn planned(a: PlanAnswer) -> u64 {
-    let x = pattern(word(0, a.number), a.ox);
+    let x = pattern(word(word(0, a.number), a.value), a.ox);
     let z = pattern(pattern(x, a.oy), a.oz);
     let nx = word(pattern(z, a.half), a.nx);
     word(word(word(nx, a.ny), a.nz), a.octants)

@@ -83,8 +83,8 @@ tells-one n values r s p q i =
       third = (p .third ∙ sym (q .third)) i;
     }
 
-pub tells-plan-one : (n : ℕ) (p : Plan) → Determined (TellsPlan n p)
-tells-plan-one n p r s f g i =
+pub tells-plan-one : (n fault : ℕ) (p : Plan) → Determined (TellsPlan n fault p)
+tells-plan-one n fault p r s f g i =
     record {
       number = (f .number ∙ sym (g .number)) i;
       value = (f .value ∙ sym (g .value)) i;
@@ -104,7 +104,7 @@ module _ (b : Bounds) (c : Float) (levels : ℕ) where
   pub sf-plan-one : Determined (Called planned (λ (a : Planned). a ≡ planOf b c levels))
   sf-plan-one r s p q =
       let e : p .outcome ≡ q .outcome = p .step ∙ sym (q .step) in
-      tells-plan-one _ _ r s (subst (λ (a : Planned). planned a r) e (p .answer)) (q .answer)
+      tells-plan-one _ _ _ r s (subst (λ (a : Planned). planned a r) e (p .answer)) (q .answer)
 
   pub sf-refine-one : (C o : List ℕ) → Determined (λ (z : Answer × List ℕ). Called refined (λ a. RefineDone b c levels C o a (z .1)) (z .0))
   sf-refine-one C o = called-one (RefineDone b c levels C o) (λ a. tells-one _ _) (refine-one b c levels C o)

@@ -1,11 +1,15 @@
 // A step's outcome as C sees it: a number and values.
 ghost use mathlib.Core.List.{[], _∷_};
-ghost use Rattle.sporeferry.specs.Calls.{Tells, planned, refined, gridded, counted, piece, kept, loaded};
+ghost use Rattle.plan.specs.Step.{refusalNumber, refusalValues, noPlan};
+ghost use Rattle.plan.specs.declared.Planned.the-variants.{Refused};
+ghost use Rattle.sporeferry.specs.Calls.{Tells, TellsPlan, planned, refined, gridded, counted, piece, kept, loaded};
 use components::OnePiece;
 use file_steps::Loaded;
 use grid::Gridded;
 use marked::Kept;
+use plan::Plan;
 use plan::Planned;
+use plan::Refusal;
 use refine::Refined;
 use refusals::Counted;
 
@@ -31,34 +35,55 @@ pub struct Answer {
     pub third: u64,
 }
 
+fn of_ready(p: Plan) -> PlanAnswer
+    ensures { λ r. ⌜ TellsPlan 0 0 p r ⌝ }
+{
+    PlanAnswer {
+        number: 0,
+        value: 0,
+        ox: p.ox,
+        oy: p.oy,
+        oz: p.oz,
+        half: p.half,
+        nx: p.nx,
+        ny: p.ny,
+        nz: p.nz,
+        octants: p.octants,
+    }
+}
+
+fn no_plan(number: u32, value: u32) -> PlanAnswer
+    ensures { λ r. ⌜ TellsPlan number value noPlan r ⌝ }
+{
+    PlanAnswer {
+        number,
+        value,
+        ox: 0.0,
+        oy: 0.0,
+        oz: 0.0,
+        half: 0.0,
+        nx: 0,
+        ny: 0,
+        nz: 0,
+        octants: 0,
+    }
+}
+
+fn unplanned(why: Refusal) -> PlanAnswer
+    ensures { λ r. ⌜ planned (Refused why) r ⌝ }
+{
+    match why {
+        Refusal::Number(number) => no_plan(number, 0),
+        Refusal::TooLarge(fault) => no_plan(4, fault),
+    }
+}
+
 pub fn of_plan(a: Planned) -> PlanAnswer
     ensures { λ r. ⌜ planned a r ⌝ }
 {
     match a {
-        Planned::Ready(p) => PlanAnswer {
-            number: 0,
-            value: 0,
-            ox: p.ox,
-            oy: p.oy,
-            oz: p.oz,
-            half: p.half,
-            nx: p.nx,
-            ny: p.ny,
-            nz: p.nz,
-            octants: p.octants,
-        },
-        Planned::Refused(number) => PlanAnswer {
-            number,
-            value: 0,
-            ox: 0.0,
-            oy: 0.0,
-            oz: 0.0,
-            half: 0.0,
-            nx: 0,
-            ny: 0,
-            nz: 0,
-            octants: 0,
-        },
+        Planned::Ready(p) => of_ready(p),
+        Planned::Refused(why) => unplanned(why),
     }
 }
 
@@ -74,12 +99,21 @@ fn counts(number: u32, first: u64) -> Answer
     }
 }
 
+fn of_refusal(why: Refusal) -> Answer
+    ensures { λ r. ⌜ Tells (refusalNumber why) (refusalValues why) r ⌝ }
+{
+    match why {
+        Refusal::Number(number) => counts(number, 0),
+        Refusal::TooLarge(fault) => counts(4, fault as u64),
+    }
+}
+
 pub fn of_refine(a: Refined) -> Answer
     ensures { λ r. ⌜ refined a r ⌝ }
 {
     match a {
         Refined::Done(ones) => counts(0, ones),
-        Refined::Refused(number) => counts(number, 0),
+        Refined::Refused(why) => of_refusal(why),
         Refined::Short(octants) => counts(9, octants),
     }
 }
@@ -94,7 +128,7 @@ pub fn of_grid(a: Gridded) -> Answer
             second: vertices,
             third: 0,
         },
-        Gridded::Refused(number) => counts(number, 0),
+        Gridded::Refused(why) => of_refusal(why),
         Gridded::NoCells(cells) => counts(9, cells),
         Gridded::NoVertices(cells, vertices) => Answer {
             number: 9,

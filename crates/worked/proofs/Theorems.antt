@@ -25,4 +25,4 @@ pub worked : Every Says table
 unfolding Says table ofBits add sub mul div neg lt ofInt ceilTo allFinite scaleOf dimOf fitsOn stretchOf off straight straightBox counted axesOf planOf run those place noted seenOf numbersOf any shares touched takenOver addCell labels labelAt componentNumbers isHighest representativesOf cellOf inOrder pointOf cornersOf volumeOf sizeOf verdictOf verdictAt shaped shapeAt finalCells firstUses usedOf renumbered boxUp latticeVertices indexOf inRange complete octahedron axisCells centreCells latticeCells flat
 worked =
     row refl (row refl (row refl (row refl (row refl (row none-split (row octree-six (row refl (row root-and-child (row child-alone
-    (row refl (row refl (row refl (row refl (row refl (row refl (row refl (row refl (row refl done))))))))))))))))))
+    (row refl (row refl (row refl (row refl (row refl (row refl (row refl (row refl (row refl (row refl (row refl done))))))))))))))))))))

@@ -10,6 +10,7 @@ use Rattle.plan.specs.Step.{planOf}
 use Rattle.space.specs.Space.{Pos, pos}
 use Rattle.grid.specs.Grid.{gridCells, gridVertices}
 use Rattle.plan.specs.declared.Bounds.{Bounds}
+use Rattle.plan.specs.declared.Refusal.the-variants.{Number, TooLarge}
 use Rattle.plan.specs.declared.Planned.{Planned}
 use Rattle.plan.specs.declared.Planned.the-variants.{Ready, Refused}
 use Rattle.octants.specs.Table.{slot, total, refineOf}
@@ -116,10 +117,13 @@ table =
     ∷ refined rootAndChild 9 1
     ∷ refined childAlone 0 0
     -- c of 0, -0, NaN, infinity: refusal 1
-    ∷ planned 0 0 0 (Refused 1)
-    ∷ planned 0 0x8000_0000 0 (Refused 1)
-    ∷ planned 0 0x7fc0_0000 0 (Refused 1)
-    ∷ planned 0 0x7f80_0000 0 (Refused 1)
+    ∷ planned 0 0 0 (Refused (Number 1))
+    ∷ planned 0 0x8000_0000 0 (Refused (Number 1))
+    ∷ planned 0 0x7fc0_0000 0 (Refused (Number 1))
+    ∷ planned 0 0x7f80_0000 0 (Refused (Number 1))
+    -- box 0 to 59, c 1, L 1: 4, and x; box 0 to 0.25, c 1, L 5: 4, and the octants
+    ∷ planned 0x426c_0000 one 1 (Refused (TooLarge 0))
+    ∷ planned quarter one 5 (Refused (TooLarge 3))
     -- cells [0,1,2,3], [3,4,5,6], [7,8,9,10], none crossing: representatives 1 and 2; cell 1 crossing: 0 and 2
     ∷ represented chain (0 ∷ 0 ∷ 0 ∷ []) (1 ∷ 2 ∷ [])
     ∷ represented chain (0 ∷ 1 ∷ 0 ∷ []) (0 ∷ 2 ∷ [])

@@ -1,9 +1,10 @@
-// Runs worked numbers of section 13 of the rules that are not in the proved table, and prints a line for each: the number of the refusal, and for
-// a plan the x origin and the unit as bit patterns, the dimensions and the octants.
+// Runs worked numbers of section 13 of the rules that are not in the proved table, and prints a line for each: the number of the refusal, for
+// a 4 what it names, and for a plan the x origin and the unit as bit patterns, the dimensions and the octants.
 use libc::STDOUT_FILENO;
 use plan::Bounds;
 use plan::Plan;
 use plan::Planned;
+use plan::Refusal;
 
 fn print_text(text: &[u8]) {
     io::write_all(STDOUT_FILENO, text);
@@ -19,6 +20,17 @@ fn print_pattern(x: f32) {
     io::print_hex(STDOUT_FILENO, float32::from_f32(x) as u64, 8);
 }
 
+// 0 where there is none.
+fn print_refusal(why: Refusal) {
+    match why {
+        Refusal::Number(number) => print_number(number),
+        Refusal::TooLarge(fault) => {
+            print_number(4);
+            print_number(fault);
+        }
+    }
+}
+
 // The plan of the box from x0 to x1 along x and from y0 to y1 along the other two; floats by their patterns.
 fn show(x0: u32, x1: u32, y0: u32, y1: u32, c: u32, levels: u32) {
     let y = float32::to_f32(y0);
@@ -32,7 +44,7 @@ fn show(x0: u32, x1: u32, y0: u32, y1: u32, c: u32, levels: u32) {
         z1: top,
     };
     let a = Plan::new(b, float32::to_f32(c), levels);
-    print_number(a.number());
+    print_refusal(a.refusal());
     if let Planned::Ready(p) = a {
         print_pattern(p.ox);
         print_pattern(p.half);

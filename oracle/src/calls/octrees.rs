@@ -3,6 +3,7 @@
 use super::{first_difference, shown, Call};
 use crate::expected;
 use crate::expected::grid::Grid;
+use crate::expected::plan::Refused;
 use crate::lent::{Lent, Table};
 use crate::library::{sf_grid, sf_plan, sf_refine, Answer, Bounds, Planned};
 use std::rc::Rc;
@@ -117,7 +118,7 @@ pub struct GridCall {
     pub plan: PlanCall,
     pub split: Lent<u8>,
     /// What is expected, found once for all calls that differ in their room only.
-    pub found: Rc<Result<Grid, u32>>,
+    pub found: Rc<Result<Grid, Refused>>,
     pub cells: Lent<u32>,
     pub triples: Lent<u32>,
     pub points: Lent<u32>,

@@ -1,7 +1,7 @@
 //! Grid: the lifted `background_grid` and `uniform_grid`.
 
 use super::graded::graded;
-use super::plan::{aabb, octree, plan};
+use super::plan::{aabb, octree, plan, Refused};
 use crate::library::{Answer, Bounds};
 use lifted::transformation::volume_mesh::isosurface_stuffing::doors::{domain, uniform_grid};
 
@@ -37,24 +37,24 @@ impl Grid {
     }
 }
 
-/// The grid, or the number of a refusal from 1 to 7: what does not depend on the room lent.
-pub fn found(bounds: &Bounds, c: f32, levels: u32, split: &[u8]) -> Result<Grid, u32> {
+/// The grid, or a refusal from 1 to 7: what does not depend on the room lent.
+pub fn found(bounds: &Bounds, c: f32, levels: u32, split: &[u8]) -> Result<Grid, Refused> {
     let layout = plan(bounds, c, levels)?.layout;
     if split.len() != layout.len() {
-        return Err(5);
+        return Err(5.into());
     }
     if split.iter().any(|byte| *byte > 1) {
-        return Err(6);
+        return Err(6.into());
     }
     if !graded(&layout, split) {
-        return Err(7);
+        return Err(7.into());
     }
     Ok(Grid::lifted(bounds, c, levels, split))
 }
 
 /// The step, once the grid is found.
 pub fn grid(
-    found: &Result<Grid, u32>,
+    found: &Result<Grid, Refused>,
     cells: &mut [u32],
     triples: &mut [u32],
     points: &mut [u32],
@@ -62,7 +62,7 @@ pub fn grid(
 ) -> Answer {
     let grid = match found {
         Ok(grid) => grid,
-        Err(number) => return Answer::refused(*number),
+        Err(refused) => return refused.answer(),
     };
     let (cell_count, vertex_count) = (grid.cell_count(), grid.vertex_count());
     if cells.len() / 4 < cell_count || work.len() < 4 * cell_count {

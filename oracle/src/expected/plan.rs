@@ -1,6 +1,6 @@
 //! Plan: the operations of rules 2.2 to 2.8 in their order, tied to the heads of the lifted functions.
 
-use crate::library::{Bounds, Planned};
+use crate::library::{Answer, Bounds, Planned};
 use lifted::bounding_volume::Aabb;
 use lifted::lent::Layout;
 use lifted::math::Vector;
@@ -18,6 +18,37 @@ pub struct Plan {
     pub origin: [f32; 3],
     pub half: f32,
     pub layout: Layout,
+}
+
+/// What a 4 names where only the octants are too many: rule R2.1.
+pub const OCTANTS: u32 = 3;
+
+/// Why there is no plan: the number, and for a 4 what it names, the first axis at fault or [`OCTANTS`].
+#[derive(Copy, Clone, Debug, PartialEq, Eq)]
+pub struct Refused {
+    pub number: u32,
+    pub names: u32,
+}
+
+impl Refused {
+    fn too_large(names: u32) -> Self {
+        Self { number: 4, names }
+    }
+
+    /// As refine and grid hand it up.
+    pub fn answer(self) -> Answer {
+        Answer {
+            first: self.names.into(),
+            ..Answer::refused(self.number)
+        }
+    }
+}
+
+/// A refusal that names nothing.
+impl From<u32> for Refused {
+    fn from(number: u32) -> Self {
+        Self { number, names: 0 }
+    }
 }
 
 /// One axis of a plan: its origin and its dimension; `None` for refusal 4.
@@ -50,17 +81,17 @@ pub fn unit(c: f32, levels: u32) -> f32 {
     }
 }
 
-/// The plan, or the number of its refusal.
-pub fn plan(bounds: &Bounds, c: f32, levels: u32) -> Result<Plan, u32> {
+/// The plan, or why there is none.
+pub fn plan(bounds: &Bounds, c: f32, levels: u32) -> Result<Plan, Refused> {
     if !(c > 0.0 && c.is_finite()) {
-        return Err(1);
+        return Err(1.into());
     }
     let finite = bounds.min.iter().chain(&bounds.max).all(|x| x.is_finite());
     if !finite || (0..3).any(|k| bounds.min[k] > bounds.max[k]) {
-        return Err(2);
+        return Err(2.into());
     }
     if levels > MOST_LEVELS {
-        return Err(3);
+        return Err(3.into());
     }
     let half = unit(c, levels);
     let mut plan = Plan {
@@ -73,10 +104,10 @@ pub fn plan(bounds: &Bounds, c: f32, levels: u32) -> Result<Plan, u32> {
     };
     for k in 0..3 {
         let found = axis(bounds.min[k], bounds.max[k], c, levels, half);
-        (plan.origin[k], plan.layout.dims[k]) = found.ok_or(4u32)?;
+        (plan.origin[k], plan.layout.dims[k]) = found.ok_or(Refused::too_large(k as u32))?;
     }
     if plan.layout.len() > MOST_OCTANTS {
-        return Err(4);
+        return Err(Refused::too_large(OCTANTS));
     }
     same_as_lifted(&plan, bounds, c);
     Ok(plan)
@@ -120,8 +151,9 @@ pub fn octree(bounds: &Bounds, c: f32, levels: u32) -> Tree {
 /// The step.
 pub fn planned(bounds: &Bounds, c: f32, levels: u32) -> Planned {
     match plan(bounds, c, levels) {
-        Err(number) => Planned {
-            number,
+        Err(refused) => Planned {
+            number: refused.number,
+            value: refused.names,
             ..Planned::default()
         },
         Ok(plan) => Planned {

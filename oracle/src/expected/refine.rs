@@ -19,7 +19,7 @@ pub fn split_table(bounds: &Bounds, c: f32, levels: u32, crossing: &[u8]) -> Vec
 pub fn refine(bounds: &Bounds, c: f32, levels: u32, crossing: &[u8], split: &mut [u8]) -> Answer {
     let octants = match plan(bounds, c, levels) {
         Ok(plan) => plan.layout.len(),
-        Err(number) => return Answer::refused(number),
+        Err(refused) => return refused.answer(),
     };
     if crossing.len() != octants {
         return Answer::refused(5);

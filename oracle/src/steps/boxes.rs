@@ -1,7 +1,7 @@
 //! Boxes, cell sizes and levels: ordinary ones, those at the limits, and those of odd floats.
 
 use crate::calls::PlanCall;
-use crate::expected::plan::{plan, Plan};
+use crate::expected::plan::{plan, Plan, OCTANTS};
 use crate::library::Bounds;
 use crate::random::{nudged, Random};
 
@@ -139,6 +139,46 @@ fn coinciding(random: &mut Random) -> PlanCall {
     let low = [(); 3].map(|_| f32::from_bits(random.bits() % 128));
     let sides = [(); 3].map(|_| f32::from_bits(random.bits() % 256));
     sided(low, sides, c, levels)
+}
+
+/// A side along which a plan does not fit: a little or far too long, or one whose extent or bounds run past the floats.
+fn at_fault(random: &mut Random, c: f32, levels: u32) -> [f32; 2] {
+    let most = if levels == 0 { 128 } else { 64 };
+    let by = random.pick(&[2, 3, 9, 1000, 1_000_000]);
+    match random.below(4) {
+        0 | 1 => [0.0, side(most + by, c, levels).min(f32::MAX)],
+        2 => [-0.75 * f32::MAX, 0.75 * f32::MAX],
+        _ if c >= 1.0e36 => [random.pick(&[-f32::MAX, f32::MAX]); 2],
+        _ => [-f32::MAX, -f32::MAX + f32::MAX / 4.0],
+    }
+}
+
+/// A plan that is refused with 4, by the axes chosen here or by the octants alone, and what it must name.
+pub fn too_large(random: &mut Random) -> (PlanCall, u32) {
+    let faults: [bool; 3] = std::array::from_fn(|_| random.once_in(2));
+    let first = faults.iter().position(|fault| *fault);
+    let levels = match first {
+        Some(_) => random.below(6) as u32,
+        None => random.between(2, 5) as u32,
+    };
+    let c = random.pick(&[0.25, 1.0, 3.0, 1.0e-30, 1.0e30, 1.0e36]);
+    // dimensions of this and more have too many octants
+    let least = [6, 6, 50, 26, 14, 8][levels as usize];
+    let mut ends = [[0.0; 2]; 3];
+    for (axis, fault) in faults.into_iter().enumerate() {
+        ends[axis] = match (fault, first) {
+            (true, _) => at_fault(random, c, levels),
+            (false, Some(_)) => [0.0, c * random.below(30) as f32],
+            (false, None) => [0.0, side(random.between(least, 63), c, levels)],
+        };
+    }
+    let call = call(
+        ends.map(|[low, _]| low),
+        ends.map(|[_, high]| high),
+        c,
+        levels,
+    );
+    (call, first.map_or(OCTANTS, |axis| axis as u32))
 }
 
 /// Any call of plan.

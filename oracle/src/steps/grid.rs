@@ -4,6 +4,7 @@ use super::rooms::{lengths, resized};
 use super::{boxes, crossings, worked, Sizes};
 use crate::calls::{compare, GridCall, PlanCall};
 use crate::expected::grid::{found, Grid};
+use crate::expected::plan::Refused;
 use crate::expected::refine::split_table;
 use crate::lent::Lent;
 use crate::library::Bounds;
@@ -16,7 +17,7 @@ use std::rc::Rc;
 pub struct Asked {
     plan: PlanCall,
     split: Vec<u8>,
-    found: Rc<Result<Grid, u32>>,
+    found: Rc<Result<Grid, Refused>>,
 }
 
 impl Asked {
@@ -140,10 +141,14 @@ fn lattice(random: &mut Random, report: &mut Report) {
     asked.with_rooms(random, 2, report);
 }
 
+/// A plan that is refused, and one that is too large, whatever the tables.
 fn refused(random: &mut Random, report: &mut Report) {
-    let len = random.below(9);
-    let split = random.dirt_bytes(len);
-    Asked::new(&boxes::refused(random), split).with_rooms(random, 1, report);
+    let (too_large, _) = boxes::too_large(random);
+    for plan in [boxes::refused(random), too_large] {
+        let len = random.below(9);
+        let split = random.dirt_bytes(len);
+        Asked::new(&plan, split).with_rooms(random, 1, report);
+    }
 }
 
 fn cuboid(sides: [f32; 3], levels: u32) -> PlanCall {

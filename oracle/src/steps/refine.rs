@@ -51,6 +51,14 @@ pub fn refused(random: &mut Random) -> RefineCall {
     call(random, &plan, &crossing, room)
 }
 
+/// A box that is too large, whatever the tables.
+pub fn too_large(random: &mut Random) -> RefineCall {
+    let (plan, _) = boxes::too_large(random);
+    let (given, room) = (random.below(9), random.below(9));
+    let crossing = random.dirt_bytes(given);
+    call(random, &plan, &crossing, room)
+}
+
 /// 64 roots along an axis, and the most octants a box can have.
 fn at_bounds(random: &mut Random, sizes: &Sizes, report: &mut Report) {
     let bounds = |x: f32| Bounds {
@@ -93,5 +101,6 @@ pub fn run(random: &mut Random, sizes: &Sizes, report: &mut Report) {
         let (lattice, _) = boxes::small(random, 0);
         with_faults(random, &lattice, &[], report);
         compare(&refused(random), report);
+        compare(&too_large(random), report);
     }
 }

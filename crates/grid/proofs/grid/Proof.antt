@@ -1,5 +1,5 @@
 use mathlib.Core.Path.{sym, ap, _∙_}
-use Rattle.plan.specs.Step.{numberOf}
+use Rattle.plan.specs.Step.{refusalOf}
 use Rattle.plan.proofs.Ready.{ready, ready-levels}
 use Rattle.grid.proofs.WaysOut.{short-table, taken, plan-refused, split-refused, filled, filled-lattice}
 use borrow.Author.Needs.{needs}
@@ -15,13 +15,13 @@ enum-known-a c = search needs
 enum-told : tie.Need-enum-told
 enum-told c = search needs
 
-number-requires : tie.Need-number-requires
-number-requires c κs = search needs
+refusal-requires : tie.Need-refusal-requires
+refusal-requires c κs = search needs
 
 returns : tie.Need-returns
 returns c =
     let e = c .before .enum-told .given .1 in
-    plan-refused _ _ _ _ _ _ _ _ (sym (c .before .before .before .new .ensures) ∙ e) (c .number .ensures ∙ ap numberOf e)
+    plan-refused _ _ _ _ _ _ _ _ (sym (c .before .before .before .new .ensures) ∙ e) (c .refusal .ensures ∙ ap refusalOf e)
 
 judge-requires : tie.Need-judge-requires
 judge-requires c κs =
@@ -94,7 +94,7 @@ grid-spec =
     new-requires
     enum-known-a
     enum-told
-    number-requires
+    refusal-requires
     returns
     judge-requires
     returns-2

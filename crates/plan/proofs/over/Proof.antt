@@ -65,8 +65,8 @@ returns-4 : tie.Need-returns-4
 unfolding axesOf counted
 returns-4 c = simp (told (c .before .before .before .before .before .before .before .before .before .before .before .before .before .along .ensures) (c .before .before .before .before .before .before .before .before .before .before .before .ox .given .1), told (c .before .before .before .before .before .before .before .before .before .along2 .ensures) (c .before .before .before .before .before .before .before .oy .given .1), told (c .before .before .before .before .before .along3 .ensures) (c .before .before .before .oz .given .1), above (c .before .count .ensures) (c .if1 .taken))
 
-cast-t17 : tie.Need-cast-t17
-cast-t17 c = search needs
+cast-t21 : tie.Need-cast-t21
+cast-t21 c = search needs
 
 returns-5 : tie.Need-returns-5
 unfolding axesOf counted
@@ -91,5 +91,5 @@ over-spec =
     count-requires
     cast-if1
     returns-4
-    cast-t17
+    cast-t21
     returns-5)

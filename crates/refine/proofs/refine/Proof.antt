@@ -15,11 +15,11 @@ enum-known-a c = search needs
 enum-told : tie.Need-enum-told
 enum-told c = search needs
 
-number-requires : tie.Need-number-requires
-number-requires c κs = search needs
+refusal-requires : tie.Need-refusal-requires
+refusal-requires c κs = search needs
 
 returns : tie.Need-returns
-returns c = let s = c .before .before .before .before .before .before .args in refused-plan (s .b) (s .c) (s .levels) (s .crossing .now) (s .split .now) (c .before .before .before .new .ensures) (c .before .enum-told .given .1) (c .number .ensures)
+returns c = let s = c .before .before .before .before .before .before .args in refused-plan (s .b) (s .c) (s .levels) (s .crossing .now) (s .split .now) (c .before .before .before .new .ensures) (c .before .enum-told .given .1) (c .refusal .ensures)
 
 cast-n : tie.Need-cast-n
 cast-n c = search needs
@@ -37,17 +37,17 @@ returns-3 c =
     let s = c .before .before .before .before .before .before .before .before .before .before .args in
     short (s .b) (s .c) (s .levels) (s .crossing .now) (s .split .now) (sym (c .before .before .before .before .before .before .before .new .ensures) ∙ c .before .before .before .before .before .a .given .1) (sym (c .before .before .judge .ensures) ∙ c .before .if1 .left) (c .if2 .taken)
 
-cast-t14 : tie.Need-cast-t14
-cast-t14 c = search needs
-
-cast-t16 : tie.Need-cast-t16
-cast-t16 c = search needs
+cast-t15 : tie.Need-cast-t15
+cast-t15 c = search needs
 
 cast-t17 : tie.Need-cast-t17
 cast-t17 c = search needs
 
 cast-t18 : tie.Need-cast-t18
 cast-t18 c = search needs
+
+cast-t19 : tie.Need-cast-t19
+cast-t19 c = search needs
 
 slice-relend-prefix-refine-table : tie.Need-slice-relend-prefix-refine-table
 slice-relend-prefix-refine-table c = search needs
@@ -75,16 +75,16 @@ refine-spec =
     new-requires
     enum-known-a
     enum-told
-    number-requires
+    refusal-requires
     returns
     cast-n
     judge-requires
     returns-2
     returns-3
-    cast-t14
-    cast-t16
+    cast-t15
     cast-t17
     cast-t18
+    cast-t19
     slice-relend-prefix-refine-table
     slice-aggregate-refine-table
     refine-table-requires

@@ -157,7 +157,7 @@ fn grid(input: &Input, tree: Option<Tree>, table: &mut Table) -> BackgroundGrid 
     let mut call = GridCall {
         plan: input.plan.clone(),
         split: Lent::new(&split),
-        found: Rc::new(Err(0)),
+        found: Rc::new(Err(0.into())),
         cells: dirty(4 * cells),
         triples: dirty(3 * vertices),
         points: dirty(3 * vertices),

@@ -5,6 +5,7 @@ use crate::record::Record;
 use crate::tape::Tape;
 use lifted::lent::Layout;
 use oracle::calls::{Format, PlanCall};
+use oracle::expected::plan::OCTANTS;
 use oracle::expected::refine::split_table;
 use oracle::random::Random;
 use oracle::steps::{
@@ -82,6 +83,21 @@ fn worked_grids(tape: &mut Tape, random: &mut Random) {
     }
 }
 
+/// Boxes that are too large: each axis and the octants named by plan, refine and grid.
+fn too_large(tape: &mut Tape, random: &mut Random) {
+    for wanted in 0..=OCTANTS {
+        for _ in 0..TAKEN {
+            let (plan, _) = std::iter::repeat_with(|| boxes::too_large(random))
+                .find(|(_, names)| *names == wanted)
+                .expect("every one of them comes up");
+            tape.offer::<PlanCall>(&plan, u32::MAX);
+            tape.offer(&refine::call(random, &plan, &[], 0), u32::MAX);
+            let asked = grid::Asked::new(&plan, Vec::new());
+            tape.offer(&asked.call(random, [0; 4]), u32::MAX);
+        }
+    }
+}
+
 /// Small grids, whole and with something wrong.
 fn grids(tape: &mut Tape, random: &mut Random) {
     for round in 0..120 {
@@ -152,5 +168,6 @@ pub fn all(seed: u64) -> Tape {
         readings(&mut tape, random, format);
     }
     headings(&mut tape, random);
+    too_large(&mut tape, random);
     tape
 }

@@ -102,7 +102,10 @@ impl Values for Planned {
     fn values(&self) -> Vec<u64> {
         let floats = self.origin.iter().chain([&self.half]).map(|x| x.to_bits());
         let whole = self.dims.into_iter().chain([self.octants]);
-        let words = [self.number].into_iter().chain(floats).chain(whole);
+        let words = [self.number, self.value]
+            .into_iter()
+            .chain(floats)
+            .chain(whole);
         words.map(u64::from).collect()
     }
 }
