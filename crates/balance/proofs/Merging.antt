@@ -94,9 +94,6 @@ marks-end {a} {b} {w} lo y n F p h g =
 pub row-room : (o w y y1 len : ℕ) → y < y1 → o + y1 * w ≤ len → o + y * w + w ≤ len
 row-room o w y y1 len h f = omega (arith, mul-le-mul-right w h)
 
-pub rows-room : (o w h y1 z z1 len : ℕ) → y1 ≤ h → z < z1 → o + z1 * (w * h) ≤ len → o + z * (w * h) + y1 * w ≤ len
-rows-room o w h y1 z z1 len f g k = omega (arith, row-room o (w * h) z z1 len g k, mul-le-mul-right w f)
-
 -- the four entries, one by one
 module _ (seen : List ℕ) (x : ℕ) where
   double : 2 * x + 0 ≡ 2 * x
