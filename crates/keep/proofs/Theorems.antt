@@ -26,7 +26,7 @@ use Rattle.marked.specs.declared.Kept.the-variants.{Done, Refused}
 use Rattle.marked.proofs.WaysOut.{kept-number}
 use Rattle.marked.proofs.Theorems.{Whole, kept-whole}
 use Rattle.keep.specs.Marked.{crustMark, isInside, coverMark}
-use Rattle.keep.specs.Step.{cellSizeRows, crustRows, coverRows, keepCrustRows, keepCoverRows, crustCells, crustDropped, coverCells, coverDropped, keepOf, crustOf, coverOf, CrustDone, CoverDone}
+use Rattle.keep.specs.Step.{crustRows, coverRows, keepCrustRows, keepCoverRows, crustCells, crustDropped, coverCells, coverDropped, keepOf, crustOf, coverOf, CrustDone, CoverDone}
 use Rattle.keep.proofs.WaysOut.{answer-kept}
 
 -- cells that are joined, step by step through shared vertices of cells not crossed, are inside together
@@ -43,7 +43,7 @@ highest-decides C X Q n i e = ap (λ (k : ℕ). not (eqb (getD Q k 0) 0)) e
 
 module _ (c : Float) (P C X p q w : List ℕ) where
   crust-number : numberOf (crustOf c P C X p q w) ≡ first (keepCrustRows c P C X p q w)
-  unfolding keepOf proper crustRows cellSizeRows crossedRows sizeRows countRows wholeRows workRows eachRows answerRows nameRows
+  unfolding keepOf proper crustRows crossedRows sizeRows countRows wholeRows workRows eachRows answerRows nameRows
   crust-number =
       number-rows numberOf Refused _ (crustRows c (length P) C X (length w)) (keptRows (crustCells c P C X) p q) refl (λ k. refl)
       (kept-number (crustCells c P C X) (crustDropped c P C X) p q)
@@ -54,7 +54,7 @@ module _ (c : Float) (P C X p q w : List ℕ) where
   pub crust-exactly : (k : ℕ) → 0 < k
       → (numberOf (crustOf c P C X p q w) ≡ k)
       ↔ ((caused k (keepCrustRows c P C X p q w) ≡ true) × (lower k (keepCrustRows c P C X p q w) ≡ false))
-  unfolding rising crustRows cellSizeRows crossedRows sizeRows countRows wholeRows workRows eachRows answerRows nameRows keptRows roomRows
+  unfolding rising crustRows crossedRows sizeRows countRows wholeRows workRows eachRows answerRows nameRows keptRows roomRows
   crust-exactly = exactly (keepCrustRows c P C X p q w) refl crust-number
 
   pub crust-one : Determined (λ (z : Kept × List ℕ × List ℕ × List ℕ). CrustDone c P C X p q w (z .0) (z .1) (z .2) (z .3))
@@ -69,7 +69,7 @@ module _ (c : Float) (P C X p q w : List ℕ) where
 
 module _ (c : Float) (P C X Q p q w : List ℕ) where
   cover-number : numberOf (coverOf c P C X Q p q w) ≡ first (keepCoverRows c P C X Q p q w)
-  unfolding keepOf proper coverRows cellSizeRows sizeRows countRows wholeRows workRows eachRows answerRows nameRows
+  unfolding keepOf proper coverRows sizeRows countRows wholeRows workRows eachRows answerRows nameRows
   cover-number =
       number-rows numberOf Refused _ (coverRows c (length P) C X Q (length w)) (keptRows (coverCells c P C X Q) p q) refl (λ k. refl)
       (kept-number (coverCells c P C X Q) (coverDropped c P C X Q) p q)
@@ -80,7 +80,7 @@ module _ (c : Float) (P C X Q p q w : List ℕ) where
   pub cover-exactly : (k : ℕ) → 0 < k
       → (numberOf (coverOf c P C X Q p q w) ≡ k)
       ↔ ((caused k (keepCoverRows c P C X Q p q w) ≡ true) × (lower k (keepCoverRows c P C X Q p q w) ≡ false))
-  unfolding rising coverRows cellSizeRows sizeRows countRows wholeRows workRows eachRows answerRows nameRows keptRows roomRows
+  unfolding rising coverRows sizeRows countRows wholeRows workRows eachRows answerRows nameRows keptRows roomRows
   cover-exactly = exactly (keepCoverRows c P C X Q p q w) refl cover-number
 
   pub cover-one : Determined (λ (z : Kept × List ℕ × List ℕ × List ℕ). CoverDone c P C X Q p q w (z .0) (z .1) (z .2) (z .3))

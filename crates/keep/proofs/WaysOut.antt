@@ -16,6 +16,7 @@ use Rattle.refusals.specs.Rows.{first, proper, under}
 use Rattle.refusals.specs.Causes.{workRows, eachRows, answerRows}
 use Rattle.refusals.proofs.Rows.{front-clear, rest-clear, unless-none, unless-some, first-under}
 use Rattle.refusals.proofs.Causes.{each-fits}
+use Rattle.plan.specs.Step.{cellSizeRows}
 use Rattle.mesh.specs.Mesh.{pointsOf, cellsOf}
 use Rattle.mesh.specs.Judged.{countRows, wholeRows, sizeRows, nameRows}
 use Rattle.mesh.proofs.Unrefused.{Fitting, sizes-proper, sizes-fit, names-fit, named-fit}
@@ -28,13 +29,13 @@ use Rattle.marked.specs.Parts.{markedIn, KeptAs, KeptMarked}
 use Rattle.marked.specs.declared.Kept.{Kept}
 use Rattle.marked.specs.declared.Kept.the-variants.{Done, Refused, Short, Nothing}
 use Rattle.marked.proofs.WaysOut.{kept-same}
-use Rattle.keep.specs.Step.{needOf, cellSizeRows, crustRows, coverRows, keepOf, workAfter, KeepDone}
+use Rattle.keep.specs.Step.{needOf, crustRows, coverRows, keepOf, workAfter, KeepDone}
 use Rattle.keep.specs.Parts.{MarksOf, frontOf, RestKept}
 
 -- ---- what is known where nothing is refused: p is the length of the table of points, room that of the work
 
 size-proper : (c : Float) → proper (cellSizeRows c) ≡ true
-unfolding proper cellSizeRows
+unfolding proper
 size-proper c = refl
 
 pub crust-fits : (c : Float) (p : ℕ) (C X : List ℕ) (room : ℕ) → first (crustRows c p C X room) ≡ 0 → Fitting p C room 1 2
@@ -159,9 +160,9 @@ module _ (P C F : List ℕ) (lost : ℕ) (p q w : List ℕ) (number : ℕ) where
       go (inr n) = absurd (n (sym (ap numberOf (unless-some number Refused (keptOf F lost p q) n)) ∙ ap numberOf (sym (d .answer) ∙ e)))
 
 pub crust-low : (c : Float) (p : ℕ) (C X : List ℕ) (room : ℕ) → first (crustRows c p C X room) < 9
-unfolding crustRows cellSizeRows crossedRows sizeRows countRows wholeRows workRows eachRows answerRows nameRows under
+unfolding crustRows crossedRows sizeRows countRows wholeRows workRows eachRows answerRows nameRows under
 crust-low c p C X room = first-under 9 (crustRows c p C X room) (omega arith) refl
 
 pub cover-low : (c : Float) (p : ℕ) (C X Q : List ℕ) (room : ℕ) → first (coverRows c p C X Q room) < 9
-unfolding coverRows cellSizeRows sizeRows countRows wholeRows workRows eachRows answerRows nameRows under
+unfolding coverRows sizeRows countRows wholeRows workRows eachRows answerRows nameRows under
 cover-low c p C X Q room = first-under 9 (coverRows c p C X Q room) (omega arith) refl

@@ -21,7 +21,7 @@ use Rattle.marked.specs.Used.{firstUses, usedOf, renumbered, pointBits, pointsA
 use Rattle.marked.specs.Weighed.{shaped, isDropped, shapeAt, dropsAt, finalCells, droppedCount}
 use Rattle.marked.specs.Kept.{numberOf, valuesOf, keptOf, pointsAfter, cellsAfter}
 use Rattle.keep.specs.Marked.{crustMark, isInside, coverMark}
-use Rattle.keep.specs.Step.{cellSizeRows, coverRows, keepOf, coverOf, coverCells, workAfter}
+use Rattle.keep.specs.Step.{coverRows, keepOf, coverOf, coverCells, workAfter}
 
 -- the cell size, points, cells, crossing and probe answers; the room for points and cells and the work, which hold sevens; and what is
 -- answered: number, values, the cells before compaction, and the three tables after
@@ -85,5 +85,5 @@ asked k =
     (pointsAfter a (k .points) F p) (cellsAfter a F q) (workAfter a (k .points) (k .cells) w)
 
 examples : map asked table ≡ table
-unfolding ofBits add sub mul div neg lt first unless countRows wholeRows workRows sizeRows eachRows answerRows nameRows allBelow among run those spread place noted any shares touched takenOver addCell labels labelAt cellOf inOrder pointOf cornersOf volumeOf sizeOf verdictOf verdictAt firstUses usedOf renumbered pointBits pointsAt shaped isDropped shapeAt dropsAt finalCells droppedCount keptOf crustMark isInside coverMark cellSizeRows coverRows keepOf
+unfolding ofBits add sub mul div neg lt first unless countRows wholeRows workRows sizeRows eachRows answerRows nameRows allBelow among run those spread place noted any shares touched takenOver addCell labels labelAt cellOf inOrder pointOf cornersOf volumeOf sizeOf verdictOf verdictAt firstUses usedOf renumbered pointBits pointsAt shaped isDropped shapeAt dropsAt finalCells droppedCount keptOf crustMark isInside coverMark coverRows keepOf
 examples = refl

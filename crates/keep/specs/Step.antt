@@ -1,15 +1,14 @@
 -- The two steps (rules 7.5 to 7.11): what is refused and why, what is answered, and what the lent tables hold after. P is the table of
 -- points, C that of cells, X that of crossing answers, Q that of probe answers, p and q the tables for points and cells kept, w the work.
 use mathlib.Core.Path.{_≡_}
-use mathlib.Core.Bool.{not}
 use mathlib.Core.List.{List, [], _∷_, _++_}
 use Prim.Native.Nat.{ℕ, _+_, _*_, _/_}
 use lib.Ieee.{Float}
-use lib.Ieee.Positive.{positive}
 use lib.ListN.{length}
 use Rattle.lists.specs.Tables.{zeroed, on}
-use Rattle.refusals.specs.Rows.{Row, _when_, first, unless}
+use Rattle.refusals.specs.Rows.{Row, first, unless}
 use Rattle.refusals.specs.Causes.{eachRows, answerRows}
+use Rattle.plan.specs.Step.{cellSizeRows}
 use Rattle.mesh.specs.Mesh.{pointsOf, cellsOf}
 use Rattle.mesh.specs.Judged.{sizeRows, nameRows}
 use Rattle.volume.specs.Volume.{leastOf}
@@ -25,10 +24,6 @@ abbrev pub needOf : List ℕ → List ℕ → ℕ
 needOf P C = cellsOf C + 2 * pointsOf P
 
 -- ---- the refusals in their order: p is the length of the table of points, room that of the work
-
--- the cell size is not one
-unfoldable pub cellSizeRows : Float → List Row
-cellSizeRows c = 1 when not (positive c) ∷ []
 
 unfoldable pub crustRows : Float → ℕ → List ℕ → List ℕ → ℕ → List Row
 crustRows c p C X room = cellSizeRows c ++ crossedRows p C X room 1 2

@@ -1,7 +1,7 @@
 -- The octahedra of the lattice by the numbers of their vertices. Assumes nothing.
 use mathlib.Core.Path.{_≡_, refl, sym, ap, _∙_, fun-ext}
 use mathlib.Core.Logic.{_⊎_, inl, inr}
-use mathlib.Core.Bool.{Bool, true, false, cond, _&&_}
+use mathlib.Core.Bool.{Bool, true, false, cond, _&&_, and-false}
 use mathlib.Core.List.{[]}
 use Prim.Native.Nat.{ℕ, _+_, _*_, _-_, _/_, _%_, _≤_, _<_}
 use native.Mathlib.Omega.{arith}
@@ -94,10 +94,6 @@ module _ (d x : Pos) (a : Axis) where
 in-true : (d p : Pos) → ((k : Axis) → p k ≤ d k) → inRange d p ≡ true
 unfolding inRange
 in-true d p h = rw (le-leb (p ax) (d ax) (h ax), le-leb (p ay) (d ay) (h ay), le-leb (p az) (d az) (h az)) refl
-
-and-false : (s : Bool) → s && false ≡ false
-and-false true = refl
-and-false false = refl
 
 in-false : (d p : Pos) (k : Axis) → d k < p k → inRange d p ≡ false
 unfolding inRange

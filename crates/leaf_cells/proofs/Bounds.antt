@@ -36,15 +36,13 @@ near-packs p e a = go a
     small : (n : ℕ) → leb field n ≡ false → n < field
     small n q = ⊎-elim (λ h. h) (λ h. clash (le-leb field n h) q) (ltOr n field)
 
-    none : (u v w : Bool) → u || v || w ≡ false → (u ≡ false) × (v ≡ false) × (w ≡ false)
-    none true v w q = clash refl q
-    none false true w q = clash refl q
-    none false false w q = (refl, refl, q)
+    on : Axis → Bool
+    on a = leb field (p a)
 
     go : (a : Axis) → p a < field
-    go ax = small (p ax) (none (leb field (p ax)) (leb field (p ay)) (leb field (p az)) e .0)
-    go ay = small (p ay) (none (leb field (p ax)) (leb field (p ay)) (leb field (p az)) e .1)
-    go az = small (p az) (none (leb field (p ax)) (leb field (p ay)) (leb field (p az)) e .2)
+    go ax = small (p ax) (neither (on ax) (on ay) (neither (on ax || on ay) (on az) e .0) .0)
+    go ay = small (p ay) (neither (on ax) (on ay) (neither (on ax || on ay) (on az) e .0) .1)
+    go az = small (p az) (neither (on ax || on ay) (on az) e .1)
 
 far-append : (a b : List Pos) → marks far (a ++ b) ≡ marks far a || marks far b
 unfolding marks

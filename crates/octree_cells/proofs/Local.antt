@@ -1,6 +1,6 @@
 -- In a graded octree what stands around a leaf is told by the splits of its own level and of the next.
 use mathlib.Core.Path.{_≡_, refl, ap, ap₂, sym, _∙_, subst, fun-ext}
-use mathlib.Core.Bool.{Bool, true, false, cond, not, _&&_, _||_}
+use mathlib.Core.Bool.{Bool, true, false, cond, not, _&&_, _||_, and-false}
 use mathlib.Core.Logic.{_⊎_, inl, inr, ⊎-elim}
 use Prim.Native.Nat.{ℕ, zero, suc, _+_, _*_, _-_, _/_, _%_, _≤_, _<_, min}
 use native.Mathlib.Omega.{arith}
@@ -279,11 +279,7 @@ or-still-2 x p q r h = rw h (go p q r)
     go false false false = refl
 
 not-split : (l : ℕ) (d : Pos) (t : Tree) (m : ℕ) (y : Pos) → t m y ≡ false → splitAt l d t m y ≡ false
-not-split l d t m y h = ap (λ (b : Bool). within (counts l d m) y && b) h ∙ go (within (counts l d m) y)
-  where
-    go : (b : Bool) → b && false ≡ false
-    go true = refl
-    go false = refl
+not-split l d t m y h = ap (λ (b : Bool). within (counts l d m) y && b) h ∙ and-false (within (counts l d m) y)
 
 between-frame : (a : Axis) (i j k e f g e' f' g' : ℕ)
     → between (frame a i j k) (frame a e f g) (frame a e' f' g') ≡ frame a (2 * i + e + e') (2 * j + f + f') (2 * k + g + g')

@@ -30,14 +30,10 @@ descent-parent t m y zero h f =
     ∙ ap (λ (b : Bool). cond b (descent t m y zero) (leaf (suc m) (parent y))) f
 descent-parent t m y (suc k) h f =
     let e : m + suc (suc k) ≡ suc m + suc k = omega arith in
-    let s = both (t (suc m + suc k) (up (suc k) (parent y))) (opened t (suc m) (parent y) k) h in
+    let s = and-both (t (suc m + suc k) (up (suc k) (parent y))) (opened t (suc m) (parent y) k) h in
     ap₂ (λ (n : ℕ) (z : Pos). cond (t n z) (descent t m y (suc k)) (leaf n z)) e (up-parent (suc k) y)
     ∙ ap (λ (b : Bool). cond b (descent t m y (suc k)) (leaf (suc m + suc k) (up (suc k) (parent y)))) (s .0)
     ∙ descent-parent t m y k (s .1) f
-  where
-    both : (a b : Bool) → a && b ≡ true → (a ≡ true) × (b ≡ true)
-    both true b h = (refl, h)
-    both false b h = clash h refl
 
 step-near : (s : Bool) (n : ℕ) → (stepped s n ≤ n + 1) × (n ≤ stepped s n + 1)
 step-near true n = (omega arith, omega arith)

@@ -9,7 +9,7 @@ use lib.Dec.{leb, eqb, lit≤}
 use lib.Pow.{pow-mono}
 use lib.Ieee.{Float, neg}
 use lib.Ieee.Scale.{finite}
-use Rattle.float32.proofs.Floats.{apart}
+use Rattle.lists.proofs.Bools.{and-left, and-right}
 use Rattle.float32.specs.Ceiling.{ceilTo}
 use Rattle.float32.specs.Operations.{_+f_, _/f_}
 use Rattle.space.specs.Space.{pos}
@@ -28,11 +28,6 @@ scale-small c levels h = go (eqb levels 0)
     go true = record { most-small = lit≤ tt; least-small = lit≤ tt; units-small = lit≤ tt }
     go false = record { most-small = lit≤ tt; least-small = lit≤ tt; units-small = mul-le-mul-left 2 (pow-mono h) }
 
-second : (p q r : Bool) → (p && (q && r)) ≡ true → q ≡ true
-second true true r h = refl
-second true false r h = h
-second false q r h = apart h
-
 -- an axis that is covered has a dimension in its bounds
 pub stretch-fits : (s : Scale) (c lo hi o : Float) (n : ℕ) → stretchOf s c lo hi ≡ Covers o n → (s .least ≤ n) × (n ≤ s .most)
 unfolding stretchOf fitsOn dimOf
@@ -41,7 +36,8 @@ stretch-fits s c lo hi o n e = go (fitsOn s c lo hi) refl e
     in-bound : fitsOn s c lo hi ≡ true → dimOf s c lo hi ≤ s .most
     in-bound f =
         leb-true (dimOf s c lo hi) (s .most)
-        (second (allFinite (lo +f neg c) (hi +f c) (originOf s c lo) (extentOf s c lo hi)) (leb (dimOf s c lo hi) (s .most)) (finite (farOf s c lo hi)) f)
+        (and-left (leb (dimOf s c lo hi) (s .most)) (finite (farOf s c lo hi))
+        (and-right (allFinite (lo +f neg c) (hi +f c) (originOf s c lo) (extentOf s c lo hi)) _ f))
 
     go : (t : Bool) → fitsOn s c lo hi ≡ t → cond t (Covers (originOf s c lo) (dimOf s c lo hi)) TooLong ≡ Covers o n → (s .least ≤ n) × (n ≤ s .most)
     go true f g =

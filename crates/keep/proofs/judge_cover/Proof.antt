@@ -6,7 +6,7 @@ use Rattle.refusals.specs.Causes.{eachRows, answerRows}
 use Rattle.refusals.proofs.Rows.{stops, goes-on}
 use Rattle.mesh.specs.Judged.{sizeRows}
 use Rattle.mesh.proofs.Unrefused.{sizes-proper, sizes-fit}
-use Rattle.keep.specs.Step.{cellSizeRows, coverRows}
+use Rattle.keep.specs.Step.{coverRows}
 use borrow.Author.Needs.{needs}
 use Rattle.keep.proofs.judge_cover.Statement.{statement}
 use Rattle.keep.proofs.judge_cover.Tie as tie
@@ -21,18 +21,18 @@ is-size-requires : tie.Need-is-size-requires
 is-size-requires c κs = search needs
 
 returns : tie.Need-returns
-unfolding coverRows cellSizeRows first
+unfolding coverRows first
 returns c = rw (failed (c .before .is-size .ensures) (c .if1 .taken))
 
 judge-sizes-requires : tie.Need-judge-sizes-requires
 judge-sizes-requires c κs = search needs
 
 returns-2 : tie.Need-returns-2
-unfolding coverRows cellSizeRows first
+unfolding coverRows first
 returns-2 c = rw (passed (c .before .before .before .is-size .ensures) (c .before .before .if1 .left)) (stops (sizeRows _ _ _ _ _) _ (c .before .judge-sizes .ensures) (c .if2 .taken))
 
 returns-3 : tie.Need-returns-3
-unfolding coverRows cellSizeRows first eachRows
+unfolding coverRows first eachRows
 returns-3 c =
     rw (
       passed (c .before .before .before .before .is-size .ensures) (c .before .before .before .if1 .left),
@@ -41,7 +41,7 @@ returns-3 c =
     )
 
 returns-4 : tie.Need-returns-4
-unfolding coverRows cellSizeRows first eachRows
+unfolding coverRows first eachRows
 returns-4 c =
     rw (
       passed (c .before .before .before .before .before .is-size .ensures) (c .before .before .before .before .if1 .left),
@@ -54,7 +54,7 @@ all-at-most-requires : tie.Need-all-at-most-requires
 all-at-most-requires c κs = search needs
 
 returns-5 : tie.Need-returns-5
-unfolding coverRows cellSizeRows first eachRows answerRows
+unfolding coverRows first eachRows answerRows
 returns-5 c =
     rw (
       passed (c .before .before .before .before .before .before .before .is-size .ensures) (c .before .before .before .before .before .before .if1 .left),
@@ -68,7 +68,7 @@ all-at-most-requires-2 : tie.Need-all-at-most-requires-2
 all-at-most-requires-2 c κs = search needs
 
 returns-6 : tie.Need-returns-6
-unfolding coverRows cellSizeRows first eachRows answerRows
+unfolding coverRows first eachRows answerRows
 returns-6 c =
     rw (
       passed (c .before .before .before .before .before .before .before .before .before .is-size .ensures) (c .before .before .before .before .before .before .before .before .if1 .left),
@@ -83,7 +83,7 @@ judge-names-requires : tie.Need-judge-names-requires
 judge-names-requires c κs = sizes-fit _ _ _ _ _ (sym (c .before .before .before .before .before .before .before .judge-sizes .ensures) ∙ c .before .before .before .before .before .before .if2 .left) .few-points
 
 returns-7 : tie.Need-returns-7
-unfolding coverRows cellSizeRows first eachRows answerRows
+unfolding coverRows first eachRows answerRows
 returns-7 c =
     rw (
       passed (c .before .before .before .before .before .before .before .before .before .before .is-size .ensures) (c .before .before .before .before .before .before .before .before .before .if1 .left),
