@@ -14,7 +14,8 @@ use Rattle.words.specs.Words.{wordAt, wordsAt}
 use Rattle.words.specs.Parts.{quadAt}
 use Rattle.words.specs.declared.Quad.{Quad}
 use Rattle.words.proofs.Words.{length-words, words-at, length-cells, vertex-at}
-use Rattle.mesh.proofs.Named.{cell-points, cell-is}
+use Rattle.mesh.proofs.Named.{cell-is}
+use Rattle.links.proofs.Vertexes.{four-asked}
 use Rattle.links.specs.Parts.{Forest, FourAsked}
 use Rattle.components.specs.Numbers.{componentNumbers}
 use Rattle.components.specs.Parts.{Askable, NumberedAt, Linked}
@@ -61,7 +62,7 @@ module _ (b : List ℕ) (s : Blocks) where
       (vertex-is i 2 h (omega arith) ec (ap (λ (r : Quad). r .c) e)) (vertex-is i 3 h (omega arith) ed (ap (λ (r : Quad). r .d) e))
 
   pub cell-asks : {i : ℕ} {P : List ℕ} {k : Cell} → i < s .n → Cells C (length P) → Forest P → k ≡ cellOf C i → FourAsked P k
-  cell-asks {i} {P} h v f e = record { forest = f; points = cell-points C (length P) i v (omega (arith, cells-in)) e; small = v .small }
+  cell-asks h v f e = four-asked (record { cells = v; forest = f; inside = omega (arith, cells-in) }) e
 
   -- numbers that are not as many are not right
   pub uneven : s .m ≢ s .n → false ≡ rightNumbers b s

@@ -37,7 +37,10 @@ fn join_cell(file: &[u8], s: Blocks, parent: &mut [u32], i: usize)
     let b = lists::wide(q.b);
     let c = lists::wide(q.c);
     let d = lists::wide(q.d);
-    links::join_four(parent, Cell { a, b, c, d });
+    if links::is_joined(parent, Cell { a, b, c, d }) {
+        return;
+    }
+    links::join_four(parent, a, b, c, d);
 }
 
 // The groups of the points that cells in a file join, from a table that holds anything.

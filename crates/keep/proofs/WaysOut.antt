@@ -22,7 +22,7 @@ use Rattle.mesh.specs.Judged.{countRows, wholeRows, sizeRows, nameRows}
 use Rattle.mesh.proofs.Unrefused.{Fitting, sizes-proper, sizes-fit, names-fit, named-fit}
 use Rattle.groups.specs.Judged.{crossedRows}
 use Rattle.groups.specs.Parts.{Sized, Laid}
-use Rattle.groups.proofs.Unrefused.{crossed-fits, sized-front}
+use Rattle.groups.proofs.Unrefused.{Answered, crossed-fits, sized-front}
 use Rattle.volume.specs.Volume.{leastOf}
 use Rattle.marked.specs.Kept.{numberOf, pointsKept, cellsKept, keptOf, pointsAfter, cellsAfter}
 use Rattle.marked.specs.Parts.{markedIn, KeptAs, KeptMarked}
@@ -38,9 +38,9 @@ size-proper : (c : Float) → proper (cellSizeRows c) ≡ true
 unfolding proper
 size-proper c = refl
 
-pub crust-fits : (c : Float) (p : ℕ) (C X : List ℕ) (room : ℕ) → first (crustRows c p C X room) ≡ 0 → Fitting p C room 1 2
+pub crust-fits : (c : Float) (p : ℕ) (C X : List ℕ) (room : ℕ) → first (crustRows c p C X room) ≡ 0 → Answered p C X room 1 2
 unfolding crustRows
-crust-fits c p C X room e = crossed-fits p C X room 1 2 (rest-clear (cellSizeRows c) _ (size-proper c) e) .mesh
+crust-fits c p C X room e = crossed-fits p C X room 1 2 (rest-clear (cellSizeRows c) _ (size-proper c) e)
 
 pub record CoverFits (p : ℕ) (C Q : List ℕ) (room : ℕ) : Type 0 where
   pub mesh : Fitting p C room 1 2

@@ -1,6 +1,7 @@
 // The steps `keep_cover` and `keep_crust`: the cells that the surface crosses, with those inside or without them, as a mesh of its own.
 ghost use mathlib.Core.Path.{_≡_};
-ghost use lib.ListN.{take};
+ghost use Prim.Native.Nat.{_<_};
+ghost use lib.ListN.{length, take};
 ghost use Rattle.lists.specs.Tests.{bit};
 ghost use Rattle.refusals.specs.Rows.{first};
 ghost use Rattle.mesh.specs.Mesh.{pointsOf, cellsOf};
@@ -55,9 +56,10 @@ fn judge_cover(
 
 // 1 where Crust keeps the cell i: it is crossed.
 fn crust_mark(crossing: &[u8], i: usize) -> u32
+    requires { ⌜ i < length (now crossing) ⌝ }
     ensures { λ r. ⌜ r ≡ bit (crustMark (now (crossing .entry)) i) ⌝ }
 {
-    if links::is_free(crossing, i) {
+    if crossing[i] == 0 {
         return 0;
     }
     1
@@ -80,7 +82,7 @@ fn cover_mark(crossing: &[u8], probe: &[u8], work: &[u32], n: usize, i: usize) -
 
 // Marks the cells that Crust keeps, in the entries behind the first n.
 fn mark_crust(cells: &[u32], crossing: &[u8], work: &mut [u32], n: usize)
-    requires { ⌜ Sized (now cells) (now work) n ⌝ }
+    requires { ⌜ Sized (now cells) (now work) n × (length (now crossing) ≡ cellsOf (now cells)) ⌝ }
     ensures { λ _. ⌜ MarksOf (crustMark (now (crossing .entry))) (now (cells .entry)) (now (work .exit)) n ⌝ }
 {
     let many = cells.len() / 4;

@@ -45,6 +45,10 @@ pub record JoinAsked (P : List ℕ) (x y : ℕ) : Type 0 where
   pub y-in : y < length P
   pub small : length P ≤ most
 
+-- the cell that names four points
+abbrev pub cellFrom : ℕ → ℕ → ℕ → ℕ → Cell
+cellFrom a b c d = record { a = a; b = b; c = c; d = d }
+
 -- those of a cell's points
 pub record FourAsked (P : List ℕ) (k : Cell) : Type 0 where
   pub forest : Forest P

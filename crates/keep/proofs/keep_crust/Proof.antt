@@ -26,32 +26,33 @@ add-need : tie.Need-add-need
 add-need c = search needs
 
 slice-relend-prefix-mark-crust : tie.Need-slice-relend-prefix-mark-crust
-slice-relend-prefix-mark-crust c = front-fits _ _ _ (crust-fits _ _ _ _ _ (sym (c .before .judge-crust .ensures) ∙ c .if1 .left))
+slice-relend-prefix-mark-crust c = front-fits _ _ _ (crust-fits _ _ _ _ _ (sym (c .before .judge-crust .ensures) ∙ c .if1 .left) .mesh)
 
 slice-aggregate-mark-crust : tie.Need-slice-aggregate-mark-crust
-slice-aggregate-mark-crust c = sym (length-take-le _ _ (front-fits _ _ _ (crust-fits _ _ _ _ _ (sym (c .before .before .judge-crust .ensures) ∙ c .before .if1 .left))))
+slice-aggregate-mark-crust c = sym (length-take-le _ _ (front-fits _ _ _ (crust-fits _ _ _ _ _ (sym (c .before .before .judge-crust .ensures) ∙ c .before .if1 .left) .mesh)))
 
 mark-crust-requires : tie.Need-mark-crust-requires
 mark-crust-requires c κs =
     let s = c .before .before .before .before .before .before .before .before .before .args in
-    front-sized (s .points .now) (s .cells .now) (s .work .now) (crust-fits _ _ _ _ _ (sym (c .before .before .judge-crust .ensures) ∙ c .before .if1 .left))
+    let f = crust-fits _ _ _ _ _ (sym (c .before .before .judge-crust .ensures) ∙ c .before .if1 .left) in
+    (front-sized (s .points .now) (s .cells .now) (s .work .now) (f .mesh), f .answers)
 
 slice-relend-prefix-keep-rest : tie.Need-slice-relend-prefix-keep-rest
 slice-relend-prefix-keep-rest c =
     let s = c .before .before .before .before .before .before .before .before .before .before .before .before .before .before .args in
-    let f = crust-fits _ _ _ _ _ (sym (c .before .before .before .before .before .before .before .judge-crust .ensures) ∙ c .before .before .before .before .before .before .if1 .left) in
+    let f = crust-fits _ _ _ _ _ (sym (c .before .before .before .before .before .before .before .judge-crust .ensures) ∙ c .before .before .before .before .before .before .if1 .left) .mesh in
     need-fits (s .points .now) (s .cells .now) (s .work .now) f (c .before .before .before .before .mark-crust .last .1 .1 .0) (c .before .before .before .before .mark-crust .kept .1 .1 .0)
 
 slice-aggregate-keep-rest : tie.Need-slice-aggregate-keep-rest
 slice-aggregate-keep-rest c =
     let s = c .before .before .before .before .before .before .before .before .before .before .before .before .before .before .before .args in
-    let f = crust-fits _ _ _ _ _ (sym (c .before .before .before .before .before .before .before .before .judge-crust .ensures) ∙ c .before .before .before .before .before .before .before .if1 .left) in
+    let f = crust-fits _ _ _ _ _ (sym (c .before .before .before .before .before .before .before .before .judge-crust .ensures) ∙ c .before .before .before .before .before .before .before .if1 .left) .mesh in
     sym (length-take-le _ _ (need-fits (s .points .now) (s .cells .now) (s .work .now) f (c .before .before .before .before .before .mark-crust .last .1 .1 .0) (c .before .before .before .before .before .mark-crust .kept .1 .1 .0)))
 
 keep-rest-requires : tie.Need-keep-rest-requires
 keep-rest-requires c κs =
     let s = c .before .before .before .before .before .before .before .before .before .before .before .before .before .before .before .args in
-    let f = crust-fits _ _ _ _ _ (sym (c .before .before .before .before .before .before .before .before .judge-crust .ensures) ∙ c .before .before .before .before .before .before .before .if1 .left) in
+    let f = crust-fits _ _ _ _ _ (sym (c .before .before .before .before .before .before .before .before .judge-crust .ensures) ∙ c .before .before .before .before .before .before .before .if1 .left) .mesh in
     rest-laid (s .points .now) (s .cells .now) (s .work .now) f (c .before .before .before .before .before .mark-crust .last .1 .1 .0) (c .before .before .before .before .before .mark-crust .kept .1 .1 .0) (c .before .before .before .before .before .mark-crust .ensures)
 
 same-length : tie.Need-same-length
@@ -67,7 +68,7 @@ returns-2 : tie.Need-returns-2
 returns-2 c =
     let s = c .before .before .before .before .before .before .before .before .before .before .before .before .before .before .before .before .before .before .before .before .before .before .args in
     let z = sym (c .before .before .before .before .before .before .before .before .before .before .before .before .before .before .before .judge-crust .ensures) ∙ c .before .before .before .before .before .before .before .before .before .before .before .before .before .before .if1 .left in
-    let f = crust-fits _ _ _ _ _ z in
+    let f = crust-fits _ _ _ _ _ z .mesh in
     let k = c .before .before .before .before .before .before .keep-rest .ensures in
     kept _ _ _ _ _ _ _ _ z (rest-marked (s .points .now) (s .cells .now) (s .work .now) f (c .before .before .before .before .before .before .before .before .before .before .before .before .mark-crust .last .1 .1 .0) (c .before .before .before .before .before .before .before .before .before .before .before .before .mark-crust .kept .1 .1 .0) (c .before .before .before .before .before .before .before .before .before .before .before .before .mark-crust .ensures) k)
     (work-zero (s .points .now) (s .cells .now) (s .work .now) f (c .before .before .before .before .before .before .before .before .before .before .before .before .mark-crust .last .1 .1 .0) (c .before .before .before .before .before .before .before .before .before .before .before .before .mark-crust .kept .1 .1 .0) (k .zero))

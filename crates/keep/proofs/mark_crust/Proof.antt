@@ -4,6 +4,7 @@ use Prim.Native.Nat.{_-_, _/_, _≤_, _+_}
 use native.Mathlib.Omega.{arith}
 use borrow.Author.Needs.{needs}
 use lib.ListN.{length, length-set}
+use Rattle.mesh.specs.Mesh.{cellsOf}
 use Rattle.keep.specs.Marked.{crustMark}
 use Rattle.keep.proofs.Marking.{Marking, marking-start, marking-step, marking-done}
 use Rattle.keep.proofs.mark_crust.Statement.{statement}
@@ -13,16 +14,16 @@ use Rattle.keep.proofs.mark_crust.Lts as lts
 use Rattle.keep.proofs.crust_mark.Reads as crust-mark-reads
 
 abbrev Inv-loop : tie.InvT-loop
-Inv-loop cells crossing work₀ n many i₀ work i = (many ≡ length cells / 4) × (length work ≡ length work₀) × Marking (crustMark crossing) cells work n i
+Inv-loop cells crossing work₀ n many i₀ work i = (many ≡ length cells / 4) × (length work ≡ length work₀) × Marking (crustMark crossing) cells work n i × (length crossing ≡ cellsOf cells)
 
 abbrev μ-loop : tie.MeasureT-loop
 μ-loop cells crossing work₀ n many i₀ work i = length cells / 4 - i
 
 loop-holds : tie.Need-loop-holds Inv-loop μ-loop
-loop-holds c = (refl, refl, marking-start _ _ _ _ (c .before .before .before .pre))
+loop-holds c = (refl, refl, marking-start _ _ _ _ (c .before .before .before .pre .0), c .before .before .before .pre .1)
 
 crust-mark-requires : tie.Need-crust-mark-requires Inv-loop μ-loop
-crust-mark-requires c κs = search needs
+crust-mark-requires c κs = omega (arith, c .before .loop .inv .0, c .before .loop .inv .3, c .loop-test .taken)
 
 add-at : tie.Need-add-at Inv-loop μ-loop
 add-at c = omega (arith, c .before .before .loop .inv .0, c .before .loop-test .taken, c .before .before .loop .inv .2 .sized .cells .few, c .before .before .loop .inv .2 .sized .cells .small)
@@ -40,7 +41,7 @@ loop-less : tie.Need-loop-less Inv-loop μ-loop
 loop-less c = omega (arith, c .before .before .loop .inv .0, c .before .loop-test .taken)
 
 loop-again : tie.Need-loop-again Inv-loop μ-loop
-loop-again c = (c .before .before .loop .inv .0, simp length-set (c .before .before .loop .inv .1), marking-step _ _ _ _ _ _ (c .before .before .loop .inv .2) (omega (arith, c .before .before .loop .inv .0, c .before .loop-test .taken)) (c .crust-mark .ensures))
+loop-again c = (c .before .before .loop .inv .0, simp length-set (c .before .before .loop .inv .1), marking-step _ _ _ _ _ _ (c .before .before .loop .inv .2) (omega (arith, c .before .before .loop .inv .0, c .before .loop-test .taken)) (c .crust-mark .ensures), c .before .before .loop .inv .3)
 
 same-length : tie.Need-same-length Inv-loop μ-loop
 same-length c = c .before .loop .inv .1
