@@ -113,6 +113,16 @@ int main(void) {
     sf_answer kept = told("keep_cover", sf_keep_cover(c, points, 3 * vertices, grid, 4 * cells, crossed, cells, probe,
                                                       cells, kept_points, 3 * vertices, kept_cells, 4 * cells, work,
                                                       cells + 2 * vertices));
+
+    /* What became of each cell, and how much of the grid's volume is kept, exactly. */
+    uint8_t *marks = table(cells, 1);
+    told("marks", sf_marks(c, points, 3 * vertices, grid, 4 * cells, crossed, cells, probe, cells, marks, cells, work,
+                           cells + vertices));
+    sf_totals nothing = {0, 0, 0, 0, 0};
+    sf_covered covered = sf_add_coverage(nothing, triples, 3 * vertices, grid, 4 * cells, marks, cells);
+    sf_answer volumes = {covered.number, covered.totals.cells, covered.totals.sixfold_kept, covered.totals.sixfold_all};
+    told("add_coverage", volumes);
+
     size_t points_len = 3 * kept.first, cells_len = 4 * kept.second, work_len = 2 * kept.first;
 
     told("components",

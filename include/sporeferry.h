@@ -16,6 +16,7 @@
  *   crossing   one byte per octant or per cell: 1 if the surface crosses it, else 0.
  *   split      one byte per octant: 1 if it has children, else 0.
  *   probe      one byte per cell: 1 if its centroid lies inside the part, else 0.
+ *   marks      one byte per cell: 0 not marked, 1 kept or exchanged, 2 dropped.
  *   work       scratch room. What it holds before a call does not matter.
  *   Octants of levels L down to 1 stand in one table, level L first; within a level octant (i, j, k) is at
  *   i + j*nx + k*nx*ny. For L = 0 the table is empty.
@@ -34,7 +35,7 @@
  *       finite. In plan, refine and grid it names the first axis that breaks its bound or has such a value, 0, 1 or 2
  *       for x, y or z, or 3 where only the octants are too many
  *    5  an input table has the wrong length, or a work table is too short (in the grid and the readers: 9)
- *    6  a byte above 1 in a table of answers or in a split table
+ *    6  a byte above 1 in a table of answers or in a split table, or above 2 in a table of marks
  *    7  the split table has a split octant under an unsplit one, or touching leaves more than one level apart
  *    8  a cell names a point that is not there
  *    9  a result table is too short (in the grid and the readers: or the work)
@@ -44,6 +45,7 @@
  *   13  the component numbers of the file are not those the writer gives
  *   14  a VTK file departs from the layout
  *   15  a cell of a VTK file is not of type 10, or not led by a four
+ *   16  a coordinate above 4,096 in a table of triples, or a total that does not fit 64 bits
  *
  * Result and work tables
  *   A result table is as it was lent after every refusal: there is never a part of a result. After an answer its first
@@ -147,6 +149,43 @@ sf_answer sf_keep_crust(float c,
                         float *kept_points, size_t kept_points_len,
                         uint32_t *kept_cells, size_t kept_cells_len,
                         uint32_t *work, size_t work_len);
+
+/* What sf_keep_cover makes of each cell. With a probe table of zeros, what sf_keep_crust does.
+ * Answer: first = kept, second = dropped; marks[0..cells): 0 not marked, 1 kept or exchanged, 2 dropped. Work is zero.
+ * Work needed: cells + points entries.
+ * Refusals: 1; 4; 5 points_len not by 3, cells_len not by 4, crossing_len or probe_len not one per cell, or work short;
+ * 6 a crossing or probe byte above 1; 8; 9 marks short, first = cells, and then work is zero. Nothing kept is an answer
+ * with first = 0. */
+sf_answer sf_marks(float c,
+                   const float *points, size_t points_len,
+                   const uint32_t *cells, size_t cells_len,
+                   const uint8_t *crossing, size_t crossing_len,
+                   const uint8_t *probe, size_t probe_len,
+                   uint8_t *marks, size_t marks_len,
+                   uint32_t *work, size_t work_len);
+
+/* Totals over grids: cells, those marked 1 and 2, and six times the volume of those marked 1 and of all, in whole units. */
+typedef struct {
+    uint64_t cells, kept, dropped, sixfold_kept, sixfold_all;
+} sf_totals;
+
+typedef struct {
+    uint32_t number;
+    sf_totals totals;
+} sf_covered;
+
+/* Adds one grid to the totals: six times the absolute volume of each cell, from the triples alone, exactly. One call a
+ * grid; the order of the calls does not matter. For an octree's grid all cells add up to 6*X*Y*Z, X, Y, Z its dims times
+ * 2*2^levels; for a lattice's to 4 a cell. Grids of different c or levels have different units, and their whole numbers
+ * are added all the same; a grid added twice counts twice.
+ * Answer: the new totals.
+ * Refusals: 4; 5 triples_len not by 3, cells_len not by 4, or marks_len not one per cell; 6 a mark above 2; 8 a cell names
+ * a triple that is not there; 16 a coordinate above 4,096, named or not, or a total that does not fit 64 bits. On a refusal
+ * the totals are those handed in. */
+sf_covered sf_add_coverage(sf_totals totals,
+                           const uint32_t *triples, size_t triples_len,
+                           const uint32_t *cells, size_t cells_len,
+                           const uint8_t *marks, size_t marks_len);
 
 /* A number for each cell: cells joined through shared vertices have the same one, and numbers count up from 0 by first
  * appearance.

@@ -11,6 +11,7 @@ pub enum Command {
     /// Print this text.
     Say(String),
     Cover(CoverOrder),
+    Coverage(CoverageOrder),
     Advise(AdviseOrder),
     Info(InfoOrder),
     ToVtk(Files),
@@ -46,6 +47,14 @@ pub struct CoverOrder {
     pub request: Request,
     pub output: PathBuf,
     pub force: bool,
+    pub json: bool,
+}
+
+/// Parts that are covered alike.
+#[derive(Debug)]
+pub struct CoverageOrder {
+    pub parts: Vec<PartOrder>,
+    pub request: Request,
     pub json: bool,
 }
 
@@ -100,6 +109,7 @@ type Reader = fn(&mut Given) -> Result<Command, String>;
 fn understood(command: &OsStr, words: &[OsString]) -> Result<Asked, String> {
     let (name, read): (_, Reader) = match command.to_str() {
         Some("cover") => ("cover", |given| cover(given).map(Command::Cover)),
+        Some("coverage") => ("coverage", |given| coverage(given).map(Command::Coverage)),
         Some("advise") => ("advise", |given| advise(given).map(Command::Advise)),
         Some("info") => ("info", |given| info(given).map(Command::Info)),
         Some("vtk") => ("vtk", |given| files(given).map(Command::ToVtk)),
@@ -114,22 +124,37 @@ fn understood(command: &OsStr, words: &[OsString]) -> Result<Asked, String> {
 }
 
 fn cover(given: &mut Given) -> Result<CoverOrder, String> {
-    let cell = given.size("--cell")?;
-    let levels = given.value("--levels")?.map(|word| levels(&word)).transpose()?;
-    let (crust, allow_dropped) = (given.flag("--crust")?, given.flag("--allow-dropped")?);
+    let request = request(given)?;
     let output = given.output()?;
     Ok(CoverOrder {
         force: given.flag("--force")?,
         json: given.flag("--json")?,
         part: part(given)?,
         output: output.ok_or("cover needs -o and the mesh file to write")?,
-        request: Request {
-            cell: cell.ok_or("cover needs --cell and the cell size")?,
-            levels: levels.unwrap_or(0),
-            crust,
-            allow_dropped,
-        },
+        request: request?,
     })
+}
+
+/// What is asked of a cover; the cell size is missed last, after the files.
+fn request(given: &mut Given) -> Result<Result<Request, String>, String> {
+    let cell = given.size("--cell")?;
+    let levels = given.value("--levels")?.map(|word| levels(&word)).transpose()?;
+    let (crust, allow_dropped) = (given.flag("--crust")?, given.flag("--allow-dropped")?);
+    let cell = cell.ok_or(format!("{} needs --cell and the cell size", given.command));
+    let levels = levels.unwrap_or(0);
+    Ok(cell.map(|cell| Request { cell, levels, crust, allow_dropped, ..Request::default() }))
+}
+
+fn coverage(given: &mut Given) -> Result<CoverageOrder, String> {
+    let request = request(given)?;
+    let (weld, move_to_origin) = (given.size("--weld")?, given.flag("--move-to-origin")?);
+    let json = given.flag("--json")?;
+    let part = |file: &OsString| PartOrder { file: file.into(), weld, move_to_origin };
+    let parts: Vec<PartOrder> = given.files.iter().map(part).collect();
+    match parts.is_empty() {
+        true => Err("coverage needs an STL file".into()),
+        false => Ok(CoverageOrder { parts, request: request?, json }),
+    }
 }
 
 fn part(given: &mut Given) -> Result<PartOrder, String> {
@@ -316,6 +341,8 @@ mod tests {
             ("cover a.stl c.stl -o b --cell 1", "cover takes one file to read"),
             ("cover a.stl -o b --cell 1 --fast", "cover has no option --fast"),
             ("cover a.stl -o b --cell 1 --crust=yes", "--crust takes no value, not yes"),
+            ("coverage --cell 1", "coverage needs an STL file"),
+            ("coverage a.stl b.stl", "coverage needs --cell and the cell size"),
             ("info", "info needs a mesh file"),
             ("info a b", "info takes one file to read"),
             ("info a --all", "info has no option --all"),
@@ -338,6 +365,17 @@ mod tests {
         }
         let told = parsed("cover a.stl --cell 1 -o -").unwrap_err();
         assert!(told.starts_with("-o takes the name of a file, not -"));
+    }
+
+    #[test]
+    fn coverage_takes_as_many_parts_as_are_named() {
+        let Ok(Command::Coverage(order)) = parsed("coverage a.stl --cell 2 b.stl --levels 1")
+        else {
+            panic!("not understood");
+        };
+        let files: Vec<PathBuf> = order.parts.into_iter().map(|part| part.file).collect();
+        assert_eq!(files, [PathBuf::from("a.stl"), PathBuf::from("b.stl")]);
+        assert_eq!((order.request.cell, order.request.levels, order.json), (2.0, 1, false));
     }
 
     #[test]

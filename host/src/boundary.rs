@@ -1,7 +1,7 @@
-//! The functions of `include/sporeferry.h`, over the module above it, which has the three types they speak of.
+//! The functions of `include/sporeferry.h`, over the module above it, which has the types they speak of.
 //! The bindings and the comparison with the Rust both take this file.
 
-use super::{Answer, Bounds, Planned};
+use super::{Added, Answer, Bounds, Planned, Totals};
 
 extern "C" {
     pub fn sf_plan(bounds: Bounds, cell: f32, levels: u32) -> Planned;
@@ -80,6 +80,32 @@ extern "C" {
         work: *mut u32,
         work_len: usize,
     ) -> Answer;
+
+    pub fn sf_marks(
+        cell: f32,
+        points: *const f32,
+        points_len: usize,
+        cells: *const u32,
+        cells_len: usize,
+        crossing: *const u8,
+        crossing_len: usize,
+        probe: *const u8,
+        probe_len: usize,
+        marks: *mut u8,
+        marks_len: usize,
+        work: *mut u32,
+        work_len: usize,
+    ) -> Answer;
+
+    pub fn sf_add_coverage(
+        totals: Totals,
+        triples: *const u32,
+        triples_len: usize,
+        cells: *const u32,
+        cells_len: usize,
+        marks: *const u8,
+        marks_len: usize,
+    ) -> Added;
 
     pub fn sf_components(
         points: *const f32,

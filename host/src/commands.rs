@@ -1,14 +1,15 @@
 //! What the tool does: each command gives what is to be told, or one sentence that says why it was not done.
 
-use crate::arguments::{AdviseOrder, CoverOrder, Files};
+use crate::arguments::{AdviseOrder, CoverOrder, CoverageOrder, Files, PartOrder};
 use crate::evidence;
 use crate::numbers::{bytes_in_words, grouped, measure};
 use crate::report::{about, Report, Told};
 use crate::source::Source;
 use sporeferry::advice::{finest, instead, least_cell, Forecast, MOST_LEVELS};
-use sporeferry::cover::{CoverError, Covered};
+use sporeferry::cover::{CoverError, Covered, Request};
 use sporeferry::json::Json;
 use sporeferry::kinds::{foreign_vtk, kind_of};
+use sporeferry::lent::Totals;
 use sporeferry::whole_file::{write_whole, Place};
 use sporeferry::{Mesh, Refusal};
 use std::fs;
@@ -93,6 +94,79 @@ fn tell_mesh(report: &mut Report, covered: &Covered, source: &Source, crust: boo
     report.line("points", grouped(covered.mesh.points.len()));
     report.line("pieces", grouped(covered.pieces));
     report.line("volume", format!("{}{compared}", measure(volume)));
+    report.line("covered", coverage_words(&covered.totals));
+}
+
+/// The exact coverage in words.
+fn coverage_words(totals: &Totals) -> String {
+    let [kept, all] = [totals.sixfold_kept, totals.sixfold_all].map(grouped);
+    format!("{kept} of {all} sixths of a cubic unit, {:.3} %", 100.0 * evidence::share(totals))
+}
+
+/// Covers some parts with the same cell size and levels, and adds up how much of their grids is kept.
+pub fn coverage(order: &CoverageOrder) -> Result<Told, String> {
+    let mut table = CoverageTable::over(&order.parts);
+    let (mut totals, mut unit) = (Totals::default(), 0.0);
+    let mut rows = Vec::new();
+    for part in &order.parts {
+        let before = totals;
+        (totals, unit) = covered_after(part, Request { totals, ..order.request })?;
+        let own = totals.since(&before);
+        table.tell(&part.file.display().to_string(), &own);
+        rows.push(Json::object([
+            ("file", part.file.to_string_lossy().into_owned().into()),
+            ("coverage", evidence::of_totals(&own)),
+        ]));
+    }
+    table.tell("total", &totals);
+    table.report.line("unit", format!("{unit}; volumes are in sixths of a cubic unit"));
+    let facts = Json::object([
+        ("cell", order.request.cell.into()),
+        ("levels", order.request.levels.into()),
+        ("unit", unit.into()),
+        ("parts", Json::List(rows)),
+        ("total", evidence::of_totals(&totals)),
+    ]);
+    Ok(Told { text: table.report.or_json(order.json, &facts), ..Told::default() })
+}
+
+/// The totals with one part more, and the unit of its grid, which is the same for every part.
+fn covered_after(part: &PartOrder, request: Request) -> Result<(Totals, f32), String> {
+    let source = Source::read(part)?;
+    let covered = sporeferry::cover::cover(&source.part, request);
+    covered.map(|covered| (covered.totals, covered.plan.half())).map_err(about(&source.file))
+}
+
+/// A row for each part, under a head.
+struct CoverageTable {
+    report: Report,
+    /// The length of the longest name.
+    names: usize,
+}
+
+impl CoverageTable {
+    fn over(parts: &[PartOrder]) -> Self {
+        let long = |part: &PartOrder| part.file.display().to_string().chars().count();
+        let names = parts.iter().map(long).max().unwrap_or(0);
+        let mut table = Self { report: Report::default(), names };
+        let head = ["cells", "kept", "dropped", "sixfold kept", "sixfold in all"];
+        table.row("part", head.map(String::from), "share");
+        table
+    }
+
+    fn row(&mut self, name: &str, counts: [String; 5], share: &str) {
+        let [cells, kept, dropped, sixfold_kept, sixfold_all] = counts;
+        let counts =
+            format!("{cells:>12} {kept:>12} {dropped:>8} {sixfold_kept:>18} {sixfold_all:>18}");
+        let name = format!("{name:<names$}", names = self.names);
+        self.report.line(&name, format!("{counts} {share:>9}"));
+    }
+
+    fn tell(&mut self, name: &str, totals: &Totals) {
+        let Totals { cells, kept, dropped, sixfold_kept, sixfold_all } = *totals;
+        let counts = [cells, kept, dropped, sixfold_kept, sixfold_all].map(grouped);
+        self.row(name, counts, &format!("{:.3} %", 100.0 * evidence::share(totals)));
+    }
 }
 
 /// Tells which cell sizes a part takes.

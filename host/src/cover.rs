@@ -6,6 +6,7 @@ use crate::answers::{answers, ones};
 use crate::crossed::Crossed;
 use crate::edges::Openings;
 use crate::grid::{Grid, Kept};
+use crate::lent::Totals;
 use crate::mesh::Mesh;
 use crate::part::Part;
 use crate::plan::Plan;
@@ -27,6 +28,8 @@ pub struct Request {
     pub crust: bool,
     /// Go on where cells are flat and have to be left out of the mesh.
     pub allow_dropped: bool,
+    /// Totals over other grids, to which this one is added.
+    pub totals: Totals,
 }
 
 /// The mesh and how it came about.
@@ -38,6 +41,9 @@ pub struct Covered {
     pub octants: Octants,
     pub cells: Cells,
     pub dropped: u64,
+    /// The totals asked for with this grid added: its cells, those kept and dropped, and six times their volumes in
+    /// whole units.
+    pub totals: Totals,
     pub pieces: u64,
     /// The mesh's volume.
     pub volume: f64,
@@ -121,11 +127,16 @@ pub fn cover(part: &Part, request: Request) -> Result<Covered, CoverError> {
     let refined = staged("refine", || plan.refine(&crossed.octants))?;
     let grid = staged("grid", || plan.grid(&refined.split))?;
     let crossing = crossed.cells(surface, &plan, &grid);
-    let (kept, cells) = keep(surface, &grid, &crossing, request)?;
+    let (kept, cells, probe) = keep(surface, &grid, &crossing, request)?;
     if kept.dropped > 0 && !request.allow_dropped {
         return Err(CoverError::Dropped(kept.dropped));
     }
+    let totals = staged("coverage", || {
+        let marks = grid.marks(request.cell, &crossing, &probe)?;
+        grid.add_coverage(request.totals, &marks.bytes)
+    })?;
     Ok(Covered {
+        totals,
         pieces: staged("pieces", || kept.mesh.components())?.count,
         volume: kept.mesh.volume(),
         mesh: kept.mesh,
@@ -141,26 +152,27 @@ pub fn cover(part: &Part, request: Request) -> Result<Covered, CoverError> {
     })
 }
 
+/// What is kept, and the probe table it was kept by: zeros for a crust.
 fn keep(
     surface: &Surface,
     grid: &Grid,
     crossing: &[u8],
     request: Request,
-) -> Result<(Kept, Cells), Refusal> {
+) -> Result<(Kept, Cells, Vec<u8>), Refusal> {
     let mut cells = Cells { all: grid.cells.len(), crossed: ones(crossing), groups: 0, inside: 0 };
+    let mut probe = vec![0; grid.cells.len()];
     if request.crust {
         let kept = staged("keeping", || grid.keep_crust(request.cell, crossing))?;
-        return Ok((kept, cells));
+        return Ok((kept, cells, probe));
     }
     let groups = staged("groups", || grid.representatives(crossing))?;
     let told =
         answers("groups", groups.len(), 16, |n| surface.winding(wide(groups[n].centroid)) != 0);
-    let mut probe = vec![0; grid.cells.len()];
     for (group, inside) in groups.iter().zip(&told) {
         probe[group.cell as usize] = *inside;
     }
     cells.groups = groups.len();
     cells.inside = ones(&told);
     let kept = staged("keeping", || grid.keep_cover(request.cell, crossing, &probe))?;
-    Ok((kept, cells))
+    Ok((kept, cells, probe))
 }

@@ -5,6 +5,7 @@ use crate::help::VERSION;
 use crate::source::Source;
 use sporeferry::cover::Covered;
 use sporeferry::json::Json;
+use sporeferry::lent::Totals;
 use sporeferry::sha256::checksum;
 use sporeferry::shells::{Kind, Shells};
 use std::fs;
@@ -66,7 +67,25 @@ fn of_mesh(path: &Path, covered: &Covered, file: &[u8]) -> Json {
         ("dropped", covered.dropped.into()),
         ("pieces", covered.pieces.into()),
         ("volume", covered.volume.into()),
+        ("coverage", of_totals(&covered.totals)),
     ])
+}
+
+/// What was added up, in whole numbers; the share of the volume that is kept.
+pub fn of_totals(totals: &Totals) -> Json {
+    Json::object([
+        ("cells", totals.cells.into()),
+        ("kept", totals.kept.into()),
+        ("dropped", totals.dropped.into()),
+        ("sixfold_kept", totals.sixfold_kept.into()),
+        ("sixfold_all", totals.sixfold_all.into()),
+        ("share", share(totals).into()),
+    ])
+}
+
+/// The kept part of the six-fold volume, 0 of none.
+pub fn share(totals: &Totals) -> f64 {
+    totals.sixfold_kept as f64 / (totals.sixfold_all.max(1)) as f64
 }
 
 fn options(order: &CoverOrder) -> Json {

@@ -1,6 +1,6 @@
 //! The background grid, and the steps that keep a mesh of it.
 
-use crate::lent;
+use crate::lent::{self, Totals};
 use crate::mesh::Mesh;
 use crate::plan::fitted;
 use crate::refusal::{Refusal, Step};
@@ -26,6 +26,15 @@ pub struct Representative {
 #[derive(Clone, Debug, PartialEq)]
 pub struct Kept {
     pub mesh: Mesh,
+    pub dropped: u64,
+}
+
+/// What Cover makes of each cell of a grid.
+#[derive(Clone, Debug, PartialEq, Eq)]
+pub struct Marks {
+    /// One byte a cell: 0 not marked, 1 kept or exchanged, 2 dropped.
+    pub bytes: Vec<u8>,
+    pub kept: u64,
     pub dropped: u64,
 }
 
@@ -133,6 +142,54 @@ impl Grid {
             &mut rooms.work,
         );
         Ok(rooms.kept(answer.told(Step::KeepCrust)?))
+    }
+
+    /// What [`Grid::keep_cover`] makes of each cell; with a probe table of zeros, what
+    /// [`Grid::keep_crust`] does. Refused with 1, 4, 5, 6 or 8.
+    ///
+    /// ```
+    /// use sporeferry::Grid;
+    /// let grid = Grid {
+    ///     points: vec![[0.0; 3], [1.0, 0.0, 0.0], [0.0, 1.0, 0.0], [0.0, 0.0, 1.0]],
+    ///     cells: vec![[0, 2, 1, 3], [0, 1, 1, 2]],
+    ///     triples: vec![],
+    /// };
+    /// assert_eq!(grid.marks(1.0, &[1, 1], &[0, 0]).unwrap().bytes, [1, 2]);
+    /// assert_eq!(grid.marks(1.0, &[1, 0], &[0, 0]).unwrap().bytes, [1, 0]);
+    /// ```
+    pub fn marks(&self, cell: f32, crossing: &[u8], probe: &[u8]) -> Result<Marks, Refusal> {
+        let mut bytes = vec![0; self.cells.len()];
+        let answer = lent::marks(
+            cell,
+            self.points.as_flattened(),
+            self.cells.as_flattened(),
+            crossing,
+            probe,
+            &mut bytes,
+            &mut vec![0; self.cells.len() + self.points.len()],
+        );
+        let [kept, dropped, _] = answer.told(Step::Marks)?;
+        Ok(Marks { bytes, kept, dropped })
+    }
+
+    /// The totals with this grid's cells added: how many, and six times their volumes in whole units,
+    /// those of cells marked 1 and of all. Refused with 4, 5, 6, 8 or 16. Totals over grids of
+    /// different cell sizes or levels add whole numbers of different units.
+    ///
+    /// ```
+    /// use sporeferry::{lent::Totals, Bounds, Plan};
+    /// let grid = Plan::new(Bounds::default(), 1.0, 1)?.grid(&[0; 216])?;
+    /// let totals = grid.add_coverage(Totals::default(), &vec![1; grid.cells.len()])?;
+    /// assert_eq!((totals.kept, totals.sixfold_all), (2592, 6 * 24 * 24 * 24));
+    /// # Ok::<(), sporeferry::Refusal>(())
+    /// ```
+    pub fn add_coverage(&self, totals: Totals, marks: &[u8]) -> Result<Totals, Refusal> {
+        let (triples, cells) = (self.triples.as_flattened(), self.cells.as_flattened());
+        let added = lent::add_coverage(totals, triples, cells, marks);
+        match added.number {
+            0 => Ok(added.totals),
+            number => Err(Refusal { step: Step::AddCoverage, number, values: [0; 3] }),
+        }
     }
 }
 

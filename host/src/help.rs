@@ -1,15 +1,16 @@
 //! The words of `--help`, of `help COMMAND` and of the manual page, all from the files in `help/`.
 
 /// Each text under the command it speaks of, in the order of the whole.
-const TEXTS: [(&str, &str); 8] = [
+const TEXTS: [(&str, &str); 9] = [
     ("", include_str!("../help/1-tool.txt")),
     ("cover", include_str!("../help/2-cover.txt")),
-    ("advise", include_str!("../help/3-advise.txt")),
-    ("info", include_str!("../help/4-info.txt")),
-    ("vtk", include_str!("../help/5-vtk.txt")),
-    ("mesh", include_str!("../help/6-mesh.txt")),
-    ("help", include_str!("../help/7-help.txt")),
-    ("", include_str!("../help/8-status.txt")),
+    ("coverage", include_str!("../help/3-coverage.txt")),
+    ("advise", include_str!("../help/4-advise.txt")),
+    ("info", include_str!("../help/5-info.txt")),
+    ("vtk", include_str!("../help/6-vtk.txt")),
+    ("mesh", include_str!("../help/7-mesh.txt")),
+    ("help", include_str!("../help/8-help.txt")),
+    ("", include_str!("../help/9-status.txt")),
 ];
 
 pub const VERSION: &str = env!("CARGO_PKG_VERSION");

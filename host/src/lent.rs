@@ -51,6 +51,39 @@ impl Answer {
     }
 }
 
+/// What was added up over grids: cells, and six times their volumes in whole units.
+#[repr(C)]
+#[derive(Clone, Copy, Debug, Default, PartialEq, Eq)]
+pub struct Totals {
+    pub cells: u64,
+    pub kept: u64,
+    pub dropped: u64,
+    pub sixfold_kept: u64,
+    pub sixfold_all: u64,
+}
+
+impl Totals {
+    /// What was added since they were as `before`.
+    pub fn since(&self, before: &Totals) -> Totals {
+        Totals {
+            cells: self.cells - before.cells,
+            kept: self.kept - before.kept,
+            dropped: self.dropped - before.dropped,
+            sixfold_kept: self.sixfold_kept - before.sixfold_kept,
+            sixfold_all: self.sixfold_all - before.sixfold_all,
+        }
+    }
+}
+
+/// The answer of [`add_coverage`].
+#[repr(C)]
+#[derive(Clone, Copy, Debug, PartialEq, Eq)]
+pub struct Added {
+    /// 0, or the number of the refusal; then the totals are those handed in.
+    pub number: u32,
+    pub totals: Totals,
+}
+
 #[path = "boundary.rs"]
 mod boundary;
 
@@ -165,6 +198,24 @@ pub fn keep_crust(
     work: &mut [u32],
 ) -> Answer {
     call!(sf_keep_crust; cell; points, cells, crossing; kept_points, kept_cells, work)
+}
+
+/// `sf_marks`.
+pub fn marks(
+    cell: f32,
+    points: &[f32],
+    cells: &[u32],
+    crossing: &[u8],
+    probe: &[u8],
+    marks: &mut [u8],
+    work: &mut [u32],
+) -> Answer {
+    call!(sf_marks; cell; points, cells, crossing, probe; marks, work)
+}
+
+/// `sf_add_coverage`.
+pub fn add_coverage(totals: Totals, triples: &[u32], cells: &[u32], marks: &[u8]) -> Added {
+    call!(sf_add_coverage; totals; triples, cells, marks;)
 }
 
 /// `sf_components`.

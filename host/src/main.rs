@@ -27,6 +27,7 @@ fn main() -> ExitCode {
     let told = match command {
         Command::Say(text) => Ok(Told { text, ..Told::default() }),
         Command::Cover(order) => commands::cover(&order),
+        Command::Coverage(order) => commands::coverage(&order),
         Command::Advise(order) => commands::advise(&order),
         Command::Info(order) => inspect::info(&order),
         Command::ToVtk(files) => commands::to_vtk(&files),

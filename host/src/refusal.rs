@@ -11,6 +11,8 @@ pub enum Step {
     Representatives,
     KeepCover,
     KeepCrust,
+    Marks,
+    AddCoverage,
     Components,
     OnePiece,
     WriteMesh,
@@ -29,6 +31,8 @@ impl Step {
             Step::Representatives => "representatives",
             Step::KeepCover => "keep (cover)",
             Step::KeepCrust => "keep (crust)",
+            Step::Marks => "marks",
+            Step::AddCoverage => "add coverage",
             Step::Components => "components",
             Step::OnePiece => "one piece",
             Step::WriteMesh => "write mesh",
@@ -65,7 +69,7 @@ pub const AXES: [&str; 3] = ["x", "y", "z"];
 #[derive(Clone, Copy, Debug, PartialEq, Eq)]
 pub struct Refusal {
     pub step: Step,
-    /// The refusal's number, 1 to 15.
+    /// The refusal's number, 1 to 16.
     pub number: u32,
     /// The counts needed on a 9, in the order the header names them; on a 4 of plan, refine and grid first what it
     /// names; else zeros.
@@ -115,6 +119,7 @@ impl Refusal {
             13 => "the component numbers in the file are not those of its cells".into(),
             14 => "the file departs from the layout of our VTK files".into(),
             15 => "a cell of the file is no tetrahedron of four points".into(),
+            16 => "a coordinate is above 4,096, or a total does not fit 64 bits".into(),
             number => format!("the library gave {number}, a number these bindings do not know"),
         }
     }
@@ -140,7 +145,10 @@ impl Refusal {
             Step::Representatives | Step::KeepCrust => {
                 "the crossing table must have one byte for each cell"
             }
-            Step::KeepCover => "the crossing and probe tables must have one byte for each cell",
+            Step::KeepCover | Step::Marks => {
+                "the crossing and probe tables must have one byte for each cell"
+            }
+            Step::AddCoverage => "the table of marks must have one byte for each cell",
             _ => "a table has the wrong length",
         }
     }
@@ -148,7 +156,10 @@ impl Refusal {
     fn wrong_byte(&self) -> &'static str {
         match self.step {
             Step::Grid => "the split table holds a byte other than 0 and 1",
-            Step::KeepCover => "the crossing or probe table holds a byte other than 0 and 1",
+            Step::KeepCover | Step::Marks => {
+                "the crossing or probe table holds a byte other than 0 and 1"
+            }
+            Step::AddCoverage => "the table of marks holds a byte other than 0, 1 and 2",
             _ => "the crossing table holds a byte other than 0 and 1",
         }
     }
@@ -162,6 +173,7 @@ impl Refusal {
             Step::KeepCover | Step::KeepCrust | Step::ReadMesh | Step::ReadVtk => {
                 format!("{first} points and {second} cells need more room")
             }
+            Step::Marks => format!("the table of marks needs room for {first} cells"),
             Step::WriteMesh | Step::WriteVtk => format!("the file needs room for {first} bytes"),
             _ => format!("the result needs room for {first} entries"),
         }

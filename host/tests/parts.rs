@@ -148,7 +148,7 @@ fn one_probe_for_a_group_is_as_good_as_one_for_each_cell() {
 #[test]
 fn a_crust_is_hollow_and_needs_no_closed_surface() {
     let sphere = shapes::sphere(10.0);
-    let request = |crust| Request { cell: 2.0, levels: 1, crust, allow_dropped: false };
+    let request = |crust| Request { cell: 2.0, levels: 1, crust, ..Request::default() };
     let closed = Part::new(sphere.clone());
     let crust = cover(&closed, request(true)).unwrap();
     assert_eq!(crust.mesh.cells.len(), crust.cells.crossed);

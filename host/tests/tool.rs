@@ -24,6 +24,7 @@ fn a_part_is_covered_and_looked_at() {
     assert_eq!(told(&out, "shells"), "1: 1 outward");
     assert!(told(&out, "volume").contains("% more than the part's"), "{out}");
     assert!(told(&out, "volume").ends_with("a jagged hull, not fitted to the surface"), "{out}");
+    assert!(told(&out, "covered").contains(" sixths of a cubic unit, "), "{out}");
     assert_eq!(folder.names(), ["ball.mesh", "ball.mesh.json", "ball.stl"]);
     let mesh = Mesh::from_bytes(&fs::read(folder.0.join("ball.mesh")).unwrap()).unwrap();
     assert_eq!(mesh.one_piece(), Ok(true));
@@ -36,6 +37,27 @@ fn a_part_is_covered_and_looked_at() {
     let out = does(&folder, "cover ball.stl --cell 4 --crust -o ball.mesh");
     assert!(!out.contains("groups") && !out.contains("% more"));
     assert_eq!(does(&folder, "cover ball.stl --cell 4 --quiet -o ball.mesh"), "");
+}
+
+#[test]
+fn coverage_is_told_part_by_part_and_in_all() {
+    let folder = folder_with("coverage", &[("a.stl", &ball()), ("b.stl", &ball())]);
+    let cover = does(&folder, "cover a.stl --cell 4 --levels 1 -o a.mesh --json");
+    let names = folder.names();
+    let out = does(&folder, "coverage a.stl b.stl --cell 4 --levels 1 --json");
+    assert_eq!(folder.names(), names);
+    let (own, all) = (Json::parse(&cover).unwrap(), Json::parse(&out).unwrap());
+    let count =
+        |json: &Json, path: &[&str]| -> u64 { json.at(path).unwrap().to_string().parse().unwrap() };
+    for name in ["cells", "kept", "dropped", "sixfold_kept", "sixfold_all"] {
+        let once = count(&own, &["mesh", "coverage", name]);
+        assert_eq!(count(&all, &["total", name]), 2 * once, "{name}: {out}");
+    }
+    assert_eq!(count(&own, &["mesh", "coverage", "kept"]), count(&own, &["mesh", "cells"]));
+    let table = does(&folder, "coverage a.stl b.stl --cell 4 --levels 1");
+    assert_eq!(told(&table, "a.stl"), told(&table, "b.stl"));
+    assert!(told(&table, "total").ends_with('%'), "{table}");
+    fails(&folder, "coverage a.stl none.stl --cell 4", 1, "none.stl: ");
 }
 
 #[test]

@@ -35,6 +35,25 @@ pub struct Answer {
     pub third: u64,
 }
 
+/// `sf_totals`.
+#[repr(C)]
+#[derive(Copy, Clone, Debug, Default, PartialEq, Eq)]
+pub struct Totals {
+    pub cells: u64,
+    pub kept: u64,
+    pub dropped: u64,
+    pub sixfold_kept: u64,
+    pub sixfold_all: u64,
+}
+
+/// `sf_covered`.
+#[repr(C)]
+#[derive(Copy, Clone, Debug, Default, PartialEq, Eq)]
+pub struct Added {
+    pub number: u32,
+    pub totals: Totals,
+}
+
 impl PartialEq for Planned {
     /// Bit for bit: −0 is not 0.
     fn eq(&self, other: &Self) -> bool {

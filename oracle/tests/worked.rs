@@ -1,12 +1,13 @@
 //! The lifted Rust and the model on the worked numbers of docs/RULES.md, section 13.
 
 use oracle::expected::components::numbers_of;
+use oracle::expected::coverage::add_coverage;
 use oracle::expected::grid::{found, Grid};
 use oracle::expected::keep::{kept, representatives_of};
 use oracle::expected::mesh::Mesh;
 use oracle::expected::plan::plan;
 use oracle::expected::refine::split_table;
-use oracle::library::Bounds;
+use oracle::library::{Bounds, Totals};
 use oracle::steps::worked;
 
 fn cube(from: f32, to: f32) -> Bounds {
@@ -65,6 +66,25 @@ fn octree_with_a_split_root_at_the_border() {
     let mut split = [0; 216];
     split[layout.place(1, [0, 2, 2])] = 1;
     assert_eq!(sizes(&found(&bounds, 1.0, 1, &split).unwrap()), (585, 2722));
+}
+
+/// What the six-fold volumes of the Rust's grid add up to.
+fn sixfold(grid: &Grid) -> u64 {
+    let marks = vec![0; grid.cell_count()];
+    let added = add_coverage(Totals::default(), &grid.triples, &grid.cells, &marks);
+    assert_eq!(added.number, 0);
+    added.totals.sixfold_all
+}
+
+#[test]
+fn grids_fill_their_box() {
+    let grid = |to: f32, levels: u32, split: &[u8]| found(&cube(0.0, to), 1.0, levels, split);
+    assert_eq!(sixfold(&grid(0.0, 0, &[]).unwrap()), 2_304);
+    assert_eq!(sixfold(&grid(0.25, 0, &[]).unwrap()), 3_072);
+    assert_eq!(sixfold(&grid(0.0, 1, &[0; 216]).unwrap()), 82_944);
+    let mut split = [0; 216];
+    split[0] = 1;
+    assert_eq!(sixfold(&grid(0.0, 1, &split).unwrap()), 82_944);
 }
 
 #[test]

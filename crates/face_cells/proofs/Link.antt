@@ -179,7 +179,7 @@ module _ (m : ℕ) (x : Pos) (a : Axis) where
         flat-halves f number (centre m x) (face m x a s) _ _ _ _ _ (ap number key-centre) (ap number (g .k0)) (ap number (g .k1)) (ap number (g .k2)) (ap number (g .k3))
 
 -- a rotation is by a corner
-turns-at-most : (p : Pos) (f : Face) → turnsTo p f ≤ 3
+pub turns-at-most : (p : Pos) (f : Face) → turnsTo p f ≤ 3
 turns-at-most p f = go (same (f .p0) p) (same (f .p1) p) (same (f .p2) p) (same (f .p3) p)
   where
     go : (a b c d : Bool) → cond a 0 (cond b 1 (cond c 2 (cond d 3 0))) ≤ 3

@@ -167,6 +167,13 @@ module _ (b : Bounds) (c : Float) (levels : ℕ) (s C T P w : List ℕ) where
       takes : 1 ≤ p .levels → Taken s (rootsIn p)
       takes o = taken b c levels p (is .ready) s (is .accepted) (λ z. omega (arith, ready-levels b c levels p (is .ready)))
 
+      -- the plan does not refuse the split table
+      pub split-taken : (q : Plan) → planOf b c levels ≡ planned.Ready q → first (splitRows q s) ≡ 0
+      split-taken q e =
+          let a = is in
+          let same : p ≡ q = cc in
+          subst (λ (k : Plan). first (splitRows k s) ≡ 0) same (a .accepted)
+
       -- an answer: every cell and every vertex stands in the tables
       pub nothing-in-part : (q : Plan) × (planOf b c levels ≡ planned.Ready q) × Whole q s n v C′ T′ P′
       nothing-in-part = (p, is .ready, whole p s _ _ _ takes (is .cells) (is .vertices) (tables .0) (tables .1) (tables .2))

@@ -71,7 +71,7 @@ module _ (c : Float) (P C X Q p q w : List ℕ) where
   cover-number : numberOf (coverOf c P C X Q p q w) ≡ first (keepCoverRows c P C X Q p q w)
   unfolding keepOf proper coverRows sizeRows countRows wholeRows workRows eachRows answerRows nameRows
   cover-number =
-      number-rows numberOf Refused _ (coverRows c (length P) C X Q (length w)) (keptRows (coverCells c P C X Q) p q) refl (λ k. refl)
+      number-rows numberOf Refused _ (coverRows c (length P) C X Q (length w) 2) (keptRows (coverCells c P C X Q) p q) refl (λ k. refl)
       (kept-number (coverCells c P C X Q) (coverDropped c P C X Q) p q)
 
   pub cover-in-turn : (k : ℕ) → 0 < k → (numberOf (coverOf c P C X Q p q w) ≡ k) ↔ InTurn k (keepCoverRows c P C X Q p q w)
@@ -91,4 +91,4 @@ module _ (c : Float) (P C X Q p q w : List ℕ) where
       → Whole (coverMark C X Q (cellsOf C)) (leastOf c) P C points cells dropped p′ q′
   cover-whole d e =
       kept-whole (coverMark C X Q (cellsOf C)) (leastOf c) P C
-      (answer-kept P C (coverCells c P C X Q) (coverDropped c P C X Q) p q w (first (coverRows c (length P) C X Q (length w))) d e) e
+      (answer-kept P C (coverCells c P C X Q) (coverDropped c P C X Q) p q w (first (coverRows c (length P) C X Q (length w) 2)) d e) e

@@ -42,22 +42,22 @@ pub crust-fits : (c : Float) (p : ℕ) (C X : List ℕ) (room : ℕ) → first (
 unfolding crustRows
 crust-fits c p C X room e = crossed-fits p C X room 1 2 (rest-clear (cellSizeRows c) _ (size-proper c) e)
 
-pub record CoverFits (p : ℕ) (C Q : List ℕ) (room : ℕ) : Type 0 where
-  pub mesh : Fitting p C room 1 2
+pub record CoverFits (p : ℕ) (C Q : List ℕ) (room b : ℕ) : Type 0 where
+  pub mesh : Fitting p C room 1 b
   pub probes : length Q ≡ cellsOf C
 
-pub cover-fits : (c : Float) (p : ℕ) (C X Q : List ℕ) (room : ℕ) → first (coverRows c p C X Q room) ≡ 0 → CoverFits p C Q room
+pub cover-fits : (c : Float) (p : ℕ) (C X Q : List ℕ) (room b : ℕ) → first (coverRows c p C X Q room b) ≡ 0 → CoverFits p C Q room b
 unfolding coverRows proper eachRows answerRows
-cover-fits c p C X Q room e =
-    let sizes = sizeRows p (length C) room 1 2 in
+cover-fits c p C X Q room b e =
+    let sizes = sizeRows p (length C) room 1 b in
     let x = eachRows (cellsOf C) (length X) in
     let q = eachRows (cellsOf C) (length Q) in
     let names = nameRows (p / 3) C in
     let s : first (sizes ++ (x ++ (q ++ (answerRows X ++ (answerRows Q ++ names))))) ≡ 0 = rest-clear (cellSizeRows c) _ (size-proper c) e in
-    let eq : first (q ++ (answerRows X ++ (answerRows Q ++ names))) ≡ 0 = rest-clear x _ refl (rest-clear sizes _ (sizes-proper p (length C) room 1 2) s) in
+    let eq : first (q ++ (answerRows X ++ (answerRows Q ++ names))) ≡ 0 = rest-clear x _ refl (rest-clear sizes _ (sizes-proper p (length C) room 1 b) s) in
     let en : first names ≡ 0 = rest-clear (answerRows Q) names refl (rest-clear (answerRows X) _ refl (rest-clear q _ refl eq)) in
     record {
-      mesh = named-fit p C room 1 2 (sizes-fit p (length C) room 1 2 (front-clear sizes _ s)) (names-fit (p / 3) C en);
+      mesh = named-fit p C room 1 b (sizes-fit p (length C) room 1 b (front-clear sizes _ s)) (names-fit (p / 3) C en);
       probes = each-fits (cellsOf C) (length Q) (front-clear q _ eq);
     }
 
@@ -163,6 +163,6 @@ pub crust-low : (c : Float) (p : ℕ) (C X : List ℕ) (room : ℕ) → first (c
 unfolding crustRows crossedRows sizeRows countRows wholeRows workRows eachRows answerRows nameRows under
 crust-low c p C X room = first-under 9 (crustRows c p C X room) (omega arith) refl
 
-pub cover-low : (c : Float) (p : ℕ) (C X Q : List ℕ) (room : ℕ) → first (coverRows c p C X Q room) < 9
+pub cover-low : (c : Float) (p : ℕ) (C X Q : List ℕ) (room b : ℕ) → first (coverRows c p C X Q room b) < 9
 unfolding coverRows sizeRows countRows wholeRows workRows eachRows answerRows nameRows under
-cover-low c p C X Q room = first-under 9 (coverRows c p C X Q room) (omega arith) refl
+cover-low c p C X Q room b = first-under 9 (coverRows c p C X Q room b) (omega arith) refl

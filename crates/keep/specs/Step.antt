@@ -28,11 +28,11 @@ needOf P C = cellsOf C + 2 * pointsOf P
 unfoldable pub crustRows : Float → ℕ → List ℕ → List ℕ → ℕ → List Row
 crustRows c p C X room = cellSizeRows c ++ crossedRows p C X room 1 2
 
--- with a probe table beside that of crossing answers
-unfoldable pub coverRows : Float → ℕ → List ℕ → List ℕ → List ℕ → ℕ → List Row
-coverRows c p C X Q room =
+-- with a probe table beside that of crossing answers; of the work one entry a cell is asked, and b a point
+unfoldable pub coverRows : Float → ℕ → List ℕ → List ℕ → List ℕ → ℕ → ℕ → List Row
+coverRows c p C X Q room b =
     cellSizeRows c
-    ++ (sizeRows p (length C) room 1 2
+    ++ (sizeRows p (length C) room 1 b
     ++ (eachRows (cellsOf C) (length X)
     ++ (eachRows (cellsOf C) (length Q)
     ++ (answerRows X
@@ -59,7 +59,7 @@ abbrev pub keepCrustRows : Float → List ℕ → List ℕ → List ℕ → List
 keepCrustRows c P C X p q w = crustRows c (length P) C X (length w) ++ keptRows (crustCells c P C X) p q
 
 abbrev pub keepCoverRows : Float → List ℕ → List ℕ → List ℕ → List ℕ → List ℕ → List ℕ → List ℕ → List Row
-keepCoverRows c P C X Q p q w = coverRows c (length P) C X Q (length w) ++ keptRows (coverCells c P C X Q) p q
+keepCoverRows c P C X Q p q w = coverRows c (length P) C X Q (length w) 2 ++ keptRows (coverCells c P C X Q) p q
 
 -- the answer, where the first refusal found before the cells are looked at has this number, or 0
 unfoldable pub keepOf : ℕ → List ℕ → ℕ → List ℕ → List ℕ → Kept
@@ -69,7 +69,7 @@ abbrev pub crustOf : Float → List ℕ → List ℕ → List ℕ → List ℕ �
 crustOf c P C X p q w = keepOf (first (crustRows c (length P) C X (length w))) (crustCells c P C X) (crustDropped c P C X) p q
 
 abbrev pub coverOf : Float → List ℕ → List ℕ → List ℕ → List ℕ → List ℕ → List ℕ → List ℕ → Kept
-coverOf c P C X Q p q w = keepOf (first (coverRows c (length P) C X Q (length w))) (coverCells c P C X Q) (coverDropped c P C X Q) p q
+coverOf c P C X Q p q w = keepOf (first (coverRows c (length P) C X Q (length w) 2)) (coverCells c P C X Q) (coverDropped c P C X Q) p q
 
 -- the work after: its entries zero on an answer, on 9 and on 10, else as lent
 abbrev pub workAfter : Kept → List ℕ → List ℕ → List ℕ → List ℕ

@@ -1,6 +1,6 @@
 // The steps `keep_cover` and `keep_crust`: the cells that the surface crosses, with those inside or without them, as a mesh of its own.
 ghost use mathlib.Core.Path.{_≡_};
-ghost use Prim.Native.Nat.{_<_};
+ghost use Prim.Native.Nat.{_≤_, _<_};
 ghost use lib.ListN.{length, take};
 ghost use Rattle.lists.specs.Tests.{bit};
 ghost use Rattle.refusals.specs.Rows.{first};
@@ -21,21 +21,23 @@ fn judge_crust(c: f32, points: usize, cells: &[u32], crossing: &[u8], room: usiz
     groups::judge(points, cells, crossing, room, 1, 2)
 }
 
-// The same for Cover, with a probe table.
-fn judge_cover(
+// The same with a probe table, for a step that asks one work entry a cell and `b` a point.
+pub fn judge_cover(
     c: f32,
     points: usize,
     cells: &[u32],
     crossing: &[u8],
     probe: &[u8],
     room: usize,
+    b: usize,
 ) -> u32
-    ensures { λ r. ⌜ r ≡ first (coverRows c points (now (cells .entry)) (now (crossing .entry)) (now (probe .entry)) room) ⌝ }
+    requires { ⌜ b ≤ 2 ⌝ }
+    ensures { λ r. ⌜ r ≡ first (coverRows c points (now (cells .entry)) (now (crossing .entry)) (now (probe .entry)) room b) ⌝ }
 {
     if !float32::is_size(c) {
         return 1;
     }
-    let number = mesh::judge_sizes(points, cells.len(), room, 1, 2);
+    let number = mesh::judge_sizes(points, cells.len(), room, 1, b);
     if number != 0 {
         return number;
     }
@@ -111,7 +113,7 @@ fn mark_cover(cells: &[u32], crossing: &[u8], probe: &[u8], work: &mut [u32], n:
 }
 
 // Finds the groups, and marks the cells that Cover keeps, from a work table that holds anything.
-fn mark_inside(cells: &[u32], crossing: &[u8], probe: &[u8], work: &mut [u32], n: usize)
+pub fn mark_inside(cells: &[u32], crossing: &[u8], probe: &[u8], work: &mut [u32], n: usize)
     requires { ⌜ InsideAsked (now cells) (now probe) (now work) n ⌝ }
     ensures { λ _. ⌜ MarksOf (coverMark (now (cells .entry)) (now (crossing .entry)) (now (probe .entry)) (cellsOf (now (cells .entry)))) (now (cells .entry)) (now (work .exit)) n ⌝ }
 {
@@ -162,7 +164,7 @@ pub fn keep_cover(
 ) -> Kept
     ensures { λ r. ⌜ CoverDone c (now (points .entry)) (now (cells .entry)) (now (crossing .entry)) (now (probe .entry)) (now («kept_points» .entry)) (now («kept_cells» .entry)) (now (work .entry)) r (now («kept_points» .exit)) (now («kept_cells» .exit)) (now (work .exit)) ⌝ }
 {
-    let number = judge_cover(c, points.len(), cells, crossing, probe, work.len());
+    let number = judge_cover(c, points.len(), cells, crossing, probe, work.len(), 2);
     if number != 0 {
         return Kept::Refused(number);
     }

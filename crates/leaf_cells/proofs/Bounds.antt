@@ -1,4 +1,4 @@
--- Every vertex of a grid has coordinates that fit its key. Assumes nothing.
+-- Every vertex of a grid has coordinates of at most 4,096, which fit its key. Assumes nothing.
 use mathlib.Core.Path.{_≡_, refl, ap, _∙_}
 use mathlib.Core.Bool.{Bool, true, false, _||_}
 use mathlib.Core.List.{List, [], _∷_, _++_}
@@ -26,23 +26,27 @@ use Rattle.octree.specs.declared.Roots.{Roots}
 use Rattle.leaf_cells.specs.Parts.{keysOf, leafKeys}
 use Rattle.leaf_cells.proofs.Keys.{along-few}
 
--- a coordinate does not fit its field
+-- a coordinate is beyond 4,096, the end of the largest grid
 abbrev pub far : Pos → Bool
-far p = leb field (p ax) || leb field (p ay) || leb field (p az)
+far p = leb 4097 (p ax) || leb 4097 (p ay) || leb 4097 (p az)
 
-pub near-packs : (p : Pos) → far p ≡ false → Packs p
-near-packs p e a = go a
+pub near-low : (p : Pos) → far p ≡ false → (a : Axis) → p a ≤ 4096
+near-low p e a = go a
   where
-    small : (n : ℕ) → leb field n ≡ false → n < field
-    small n q = ⊎-elim (λ h. h) (λ h. clash (le-leb field n h) q) (ltOr n field)
+    small : (n : ℕ) → leb 4097 n ≡ false → n ≤ 4096
+    small n q = ⊎-elim (λ h. omega arith) (λ h. clash (le-leb 4097 n h) q) (ltOr n 4097)
 
     on : Axis → Bool
-    on a = leb field (p a)
+    on a = leb 4097 (p a)
 
-    go : (a : Axis) → p a < field
+    go : (a : Axis) → p a ≤ 4096
     go ax = small (p ax) (neither (on ax) (on ay) (neither (on ax || on ay) (on az) e .0) .0)
     go ay = small (p ay) (neither (on ax) (on ay) (neither (on ax || on ay) (on az) e .0) .1)
     go az = small (p az) (neither (on ax || on ay) (on az) e .1)
+
+-- and so it fits the field of a key
+pub near-packs : (p : Pos) → far p ≡ false → Packs p
+near-packs p e a = omega (arith, near-low p e a)
 
 far-append : (a b : List Pos) → marks far (a ++ b) ≡ marks far a || marks far b
 unfolding marks
@@ -71,13 +75,13 @@ module _ (s : List ℕ) (r : Roots) (h : Taken s r) where
       twice i n q = omega arith
 
   not-far : (p : Pos) → ((a : Axis) → p a ≤ 4096) → far p ≡ true → ⊥
-  not-far p q e = go (or-cases (leb field (p ax) || leb field (p ay)) (leb field (p az)) e)
+  not-far p q e = go (or-cases (leb 4097 (p ax) || leb 4097 (p ay)) (leb 4097 (p az)) e)
     where
-      at : (a : Axis) → leb field (p a) ≡ true → ⊥
-      at a k = omega (arith, leb-true field (p a) k, q a)
+      at : (a : Axis) → leb 4097 (p a) ≡ true → ⊥
+      at a k = omega (arith, leb-true 4097 (p a) k, q a)
 
-      go : (leb field (p ax) || leb field (p ay) ≡ true) ⊎ (leb field (p az) ≡ true) → ⊥
-      go (inl k) = ⊎-elim (at ax) (at ay) (or-cases (leb field (p ax)) (leb field (p ay)) k)
+      go : (leb 4097 (p ax) || leb 4097 (p ay) ≡ true) ⊎ (leb 4097 (p az) ≡ true) → ⊥
+      go (inl k) = ⊎-elim (at ax) (at ay) (or-cases (leb 4097 (p ax)) (leb 4097 (p ay)) k)
       go (inr k) = at az k
 
   corner-few : (m : ℕ) (x o : Pos) → IsLeaf l d t m x → Inside two o → (a : Axis) → corner m x o a ≤ 4096
@@ -111,7 +115,7 @@ module _ (s : List ℕ) (r : Roots) (h : Taken s r) where
       (λ e. e)
       (bool-cases (marks far (overLeaves l d t leafPoints)))
 
-  -- no vertex of a cell has a coordinate that does not fit
+  -- no vertex of a cell has such a coordinate
   pub cells-near : names far (cells l d t) ≡ false
   cells-near = vertices l d t (h .graded) far ∙ points-near
 

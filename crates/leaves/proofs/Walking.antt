@@ -168,7 +168,7 @@ module _ (s : List ℕ) (d : Roots) (h : Taken s d) where
       most-at q b (coarser n z) = omega arith
       most-at q b border = omega arith
 
-  leaf-few : (m : ℕ) (x : Pos) → length (giving s d m x) ≤ 48
+  pub leaf-few : (m : ℕ) (x : Pos) → length (giving s d m x) ≤ 48
   unfolding leafCells
   leaf-few m x =
       simp length-append

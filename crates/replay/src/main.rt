@@ -1,13 +1,17 @@
 // Replays a fixed sample of calls whose answers the lifted Rust gave: stdin is the tape (crate `tape`), stdout what is printed where
 // nothing differs. Both are made by `oracle/sample`.
+use coverage::Totals;
 use libc::STDIN_FILENO;
 use plan::Bounds;
 use sporeferry::Answer;
+use sporeferry::CoveredAnswer;
 use sporeferry::PlanAnswer;
+use sporeferry::sf_add_coverage;
 use sporeferry::sf_components;
 use sporeferry::sf_grid;
 use sporeferry::sf_keep_cover;
 use sporeferry::sf_keep_crust;
+use sporeferry::sf_marks;
 use sporeferry::sf_one_piece;
 use sporeferry::sf_plan;
 use sporeferry::sf_read_mesh;
@@ -39,6 +43,22 @@ fn bounds_at(tape: &[u32], at: usize) -> Bounds {
     }
 }
 
+// A number of two words.
+fn joined(low: u32, high: u32) -> u64 {
+    high as u64 * 4_294_967_296 + low as u64
+}
+
+// The totals of a call, which stand where others have a probe table: of each the low word first.
+fn totals_at(tape: &[u32], at: usize) -> Totals {
+    Totals {
+        cells: joined(tape::word(tape, at, 0), tape::word(tape, at, 1)),
+        kept: joined(tape::word(tape, at, 2), tape::word(tape, at, 3)),
+        dropped: joined(tape::word(tape, at, 4), tape::word(tape, at, 5)),
+        sixfold_kept: joined(tape::word(tape, at, 6), tape::word(tape, at, 7)),
+        sixfold_all: joined(tape::word(tape, at, 8), tape::word(tape, at, 9)),
+    }
+}
+
 fn pattern(digest: u64, x: f32) -> u64 {
     tape::number(digest, float32::from_f32(x) as u64)
 }
@@ -60,8 +80,15 @@ fn planned(a: PlanAnswer) -> u64 {
     word(word(word(nx, a.ny), a.nz), a.octants)
 }
 
-// Calls the step of a call and takes the digest of its answer: the first table of bytes on the tape is what the step calls crossing, split
-// or file, and tables are written in the order of the C function, bytes and long words apart.
+fn covered(a: CoveredAnswer) -> u64 {
+    let t = a.totals;
+    let kept = tape::number(tape::number(word(0, a.number), t.cells), t.kept);
+    let dropped = tape::number(kept, t.dropped);
+    tape::number(tape::number(dropped, t.sixfold_kept), t.sixfold_all)
+}
+
+// Calls the step of a call and takes the digest of its answer: the first table of bytes on the tape is what the step calls crossing, split,
+// file or marks, and tables are written in the order of the C function, bytes and long words apart.
 fn answered(
     tape: &[u32],
     bytes: &[u8],
@@ -93,7 +120,9 @@ fn answered(
         8 => told(sf_write_mesh(points, cells, small, first)),
         9 => told(sf_read_mesh(crossing, first, second, third)),
         10 => told(sf_write_vtk(points, cells, small, first)),
-        _ => told(sf_read_vtk(crossing, first, second, third)),
+        11 => told(sf_read_vtk(crossing, first, second, third)),
+        12 => told(sf_marks(c, points, cells, crossing, probe, small, first)),
+        _ => covered(sf_add_coverage(totals_at(tape, n.probe.from), points, cells, crossing)),
     }
 }
 

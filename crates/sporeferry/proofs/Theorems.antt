@@ -30,7 +30,13 @@ use Rattle.file_steps.specs.Writer.{Writes}
 use Rattle.file_steps.proofs.Theorems.{write-one, read-one}
 use Rattle.mesh_reader.specs.Step.{ReadDone}
 use Rattle.vtk_reader.specs.Step.{ReadDone as VtkReadDone}
-use Rattle.sporeferry.specs.Calls.{Called, Tells, TellsPlan, planned, refined, gridded, counted, piece, kept, loaded}
+use Rattle.marks.specs.Step.{MarksDone}
+use Rattle.marks.proofs.Theorems.{marks-one}
+use Rattle.coverage.specs.declared.Totals.{Totals}
+use Rattle.coverage.specs.declared.Covered.{Covered}
+use Rattle.coverage.specs.Step.{CoverageDone}
+use Rattle.coverage.proofs.Theorems.{coverage-one}
+use Rattle.sporeferry.specs.Calls.{Called, Tells, TellsPlan, TellsTotals, planned, refined, gridded, counted, piece, kept, told, covered, loaded}
 use Rattle.sporeferry.specs.declared.outcomes.Answer.{Answer}
 use Rattle.sporeferry.specs.declared.outcomes.PlanAnswer.{PlanAnswer}
 
@@ -98,7 +104,15 @@ tells-plan-one n fault p r s f g i =
       octants = (f .octants ∙ sym (g .octants)) i;
     }
 
+pub tells-totals-one : (n : ℕ) (t : Totals) → Determined (TellsTotals n t)
+tells-totals-one n t r s p q i = record { number = (p .number ∙ sym (q .number)) i; totals = (p .totals ∙ sym (q .totals)) i }
+
 -- ---- each C function
+
+pub sf-add-coverage-one : (t : Totals) (T C M : List ℕ) → Determined (Called covered (λ (a : Covered). CoverageDone t T C M a))
+sf-add-coverage-one t T C M r s p q =
+    let e : p .outcome ≡ q .outcome = coverage-one t T C M _ _ (p .step) (q .step) in
+    tells-totals-one _ _ r s (subst (λ (a : Covered). covered a r) e (p .answer)) (q .answer)
 
 module _ (b : Bounds) (c : Float) (levels : ℕ) where
   pub sf-plan-one : Determined (Called planned (λ (a : Planned). a ≡ planOf b c levels))
@@ -133,6 +147,10 @@ module _ (P C : List ℕ) where
         (λ (z : Answer × List ℕ × List ℕ × List ℕ).
         Called kept (λ a. KeepDone (crustOf c P C X p q w) P C (crustCells c P C X) p q w a (z .1) (z .2) (z .3)) (z .0))
     sf-keep-crust-one = called-three (KeepDone (crustOf c P C X p q w) P C (crustCells c P C X) p q w) (λ a. tells-one _ _) (crust-one c P C X p q w)
+
+  pub sf-marks-one : (c : Float) (X Q o w : List ℕ)
+      → Determined (λ (z : Answer × List ℕ × List ℕ). Called told (λ a. MarksDone c P C X Q o w a (z .1) (z .2)) (z .0))
+  sf-marks-one c X Q o w = called-two (MarksDone c P C X Q o w) (λ a. tells-one _ _) (marks-one c P C X Q o w)
 
   pub sf-components-one : (o w : List ℕ)
       → Determined (λ (z : Answer × List ℕ × List ℕ). Called counted (λ a. ComponentsDone P C o w a (z .1) (z .2)) (z .0))

@@ -2,9 +2,13 @@
 ghost use Rattle.components.specs.Step.{ComponentsDone, OnePieceDone};
 ghost use Rattle.representatives.specs.Step.{RepresentativesDone};
 ghost use Rattle.keep.specs.Step.{KeepDone, coverOf, coverCells, crustOf, crustCells};
-ghost use Rattle.sporeferry.specs.Calls.{Called, counted, piece, kept};
+ghost use Rattle.marks.specs.Step.{MarksDone};
+ghost use Rattle.coverage.specs.Step.{CoverageDone};
+ghost use Rattle.sporeferry.specs.Calls.{Called, counted, piece, kept, told, covered};
 use crate::outcomes;
 use crate::outcomes::Answer;
+use crate::outcomes::CoveredAnswer;
+use coverage::Totals;
 
 #[no_mangle]
 pub extern "C" fn sf_representatives(
@@ -84,4 +88,31 @@ pub extern "C" fn sf_one_piece(points: &[u32], cells: &[u32], work: &mut [u32]) 
     ensures { λ r. ⌜ Called piece (λ a. OnePieceDone (now (points .entry)) (now (cells .entry)) (now (work .entry)) a (now (work .exit))) r ⌝ }
 {
     outcomes::of_one_piece(components::one_piece(points, cells, work))
+}
+
+#[no_mangle]
+pub extern "C" fn sf_marks(
+    c: f32,
+    points: &[u32],
+    cells: &[u32],
+    crossing: &[u8],
+    probe: &[u8],
+    marks: &mut [u8],
+    work: &mut [u32],
+) -> Answer
+    ensures { λ r. ⌜ Called told (λ a. MarksDone c (now (points .entry)) (now (cells .entry)) (now (crossing .entry)) (now (probe .entry)) (now (marks .entry)) (now (work .entry)) a (now (marks .exit)) (now (work .exit))) r ⌝ }
+{
+    outcomes::of_told(marks::marks(c, points, cells, crossing, probe, marks, work))
+}
+
+#[no_mangle]
+pub extern "C" fn sf_add_coverage(
+    totals: Totals,
+    triples: &[u32],
+    cells: &[u32],
+    marks: &[u8],
+) -> CoveredAnswer
+    ensures { λ r. ⌜ Called covered (λ a. CoverageDone totals (now (triples .entry)) (now (cells .entry)) (now (marks .entry)) a) r ⌝ }
+{
+    outcomes::of_covered(coverage::add_coverage(totals, triples, cells, marks))
 }

@@ -2,11 +2,14 @@
 ghost use mathlib.Core.List.{[], _∷_};
 ghost use Rattle.plan.specs.Step.{refusalNumber, refusalValues, noPlan};
 ghost use Rattle.plan.specs.declared.Planned.the-variants.{Refused};
-ghost use Rattle.sporeferry.specs.Calls.{Tells, TellsPlan, planned, refined, gridded, counted, piece, kept, loaded};
+ghost use Rattle.sporeferry.specs.Calls.{Tells, TellsPlan, planned, refined, gridded, counted, piece, kept, told, covered, loaded};
 use components::OnePiece;
+use coverage::Covered;
+use coverage::Totals;
 use file_steps::Loaded;
 use grid::Gridded;
 use marked::Kept;
+use marks::Told;
 use plan::Plan;
 use plan::Planned;
 use plan::Refusal;
@@ -33,6 +36,12 @@ pub struct Answer {
     pub first: u64,
     pub second: u64,
     pub third: u64,
+}
+
+#[repr(C)]
+pub struct CoveredAnswer {
+    pub number: u32,
+    pub totals: Totals,
 }
 
 fn of_ready(p: Plan) -> PlanAnswer
@@ -201,5 +210,29 @@ pub fn of_loaded(a: Loaded) -> Answer
             second: cells,
             third: 0,
         },
+    }
+}
+
+pub fn of_told(a: Told) -> Answer
+    ensures { λ r. ⌜ told a r ⌝ }
+{
+    match a {
+        Told::Done(kept, dropped) => Answer {
+            number: 0,
+            first: kept,
+            second: dropped,
+            third: 0,
+        },
+        Told::Refused(number) => counts(number, 0),
+        Told::Short(cells) => counts(9, cells),
+    }
+}
+
+pub fn of_covered(a: Covered) -> CoveredAnswer
+    ensures { λ r. ⌜ covered a r ⌝ }
+{
+    match a {
+        Covered::Added(totals) => CoveredAnswer { number: 0, totals },
+        Covered::Refused(number, totals) => CoveredAnswer { number, totals },
     }
 }

@@ -9,6 +9,7 @@ use Rattle.space.specs.Levels.{depth}
 use Rattle.plan.specs.Step.{planOf}
 use Rattle.space.specs.Space.{Pos, pos}
 use Rattle.grid.specs.Grid.{gridCells, gridVertices}
+use Rattle.tiling.specs.Volume.{sumSix}
 use Rattle.plan.specs.declared.Bounds.{Bounds}
 use Rattle.plan.specs.declared.Refusal.the-variants.{Number, TooLarge}
 use Rattle.plan.specs.declared.Planned.{Planned}
@@ -63,6 +64,8 @@ pub data Row : Type 0 where
   gridded : (levels : ℕ) (d : Pos) (split : List ℕ) (cells vertices : ℕ) → Row
   -- the lattice over d: how many vertices and cells it has, and its first cell
   lattice : (d : Pos) (vertices cells : ℕ) (first : List ℕ) → Row
+  -- what the six-fold volumes of that grid's cells add up to
+  filled : (levels : ℕ) (d : Pos) (split : List ℕ) (sum : ℕ) → Row
   -- the refinement over six roots an axis: its split table
   refinedTo : (levels : ℕ) (crossing table : List ℕ) → Row
   -- over two levels: how many octants it splits, and the byte of root (1, 1, 1)
@@ -80,6 +83,7 @@ unfoldable pub Says : Row → Type 0
 Says (planned x c levels answer) = planOf (cube x) (f32 c) levels ≡ answer
 Says (gridded levels d split cells vertices) = (length (gridCells levels d split) ≡ cells) × (length (gridVertices levels d split) ≡ vertices)
 Says (lattice d vertices cells first) = length (latticeVertices d) ∷ length (latticeCells d) ∷ take 4 (latticeTable d) ≡ vertices ∷ cells ∷ first
+Says (filled levels d split sum) = sumSix (gridCells levels d split) ≡ sum
 Says (refinedTo levels crossing table) = refineOf six levels crossing ≡ table
 Says (refined crossing ones byte) = Splits (refineOf six 2 crossing) ones byte
 Says (represented cells crossing numbers) = representativesOf cells crossing (cellsOf cells) ≡ numbers
@@ -102,15 +106,20 @@ table =
     planned 0 one 0 (plan 0xc000_0000 0x3f00_0000 8 0 0)
     -- 189 points, 576 cells; the first cell is [125, 126, 31, 26]
     ∷ lattice (pos 8 8 8) 189 576 (125 ∷ 126 ∷ 31 ∷ 26 ∷ [])
+    -- 4 a cell
+    ∷ filled 0 (pos 8 8 8) [] 2304
     -- box 0 to 0.25, c 1, L 0: dims 9
     ∷ planned quarter one 0 (plan 0xc000_0000 0x3f00_0000 9 0 0)
     -- 250 points, 768 cells
     ∷ lattice (pos 9 9 9) 250 768 (125 ∷ 126 ∷ 31 ∷ 26 ∷ [])
+    ∷ filled 0 (pos 9 9 9) [] 3072
     -- box all 0, c 1, L 1: dims 6, origin -3, half 0.25, N 216
     ∷ planned 0 one 1 (plan 0xc040_0000 quarter 6 1 216)
     -- no crossing: no root is split; 2,592 cells, 559 vertices
     ∷ refinedTo 1 none none
     ∷ gridded 1 six none 2592 559
+    -- six times the box of 24 units an axis
+    ∷ filled 1 six none 82944
     -- the same box, L 2: dims 6, origin -3, half 0.125, N 1,944
     ∷ planned 0 one 2 (plan 0xc040_0000 0x3e00_0000 6 2 1944)
     -- crossed root (2,2,2) and level-1 (4,4,4): 9 split, root (1,1,1) among them; without the root crossed: 0

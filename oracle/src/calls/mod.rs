@@ -1,14 +1,16 @@
 //! One call of a step, put to the library and to what is expected of it.
 
+mod coverage;
 mod files;
 mod meshes;
 mod octrees;
 
+pub use coverage::{CoverageCall, MarksCall};
 pub use files::{Format, ReadCall, WriteCall};
 pub use meshes::{ComponentsCall, Input, KeepCall, OnePieceCall, RepresentativesCall};
 pub use octrees::{GridCall, PlanCall, RefineCall};
 
-use crate::library::{Answer, Planned};
+use crate::library::{Added, Answer, Planned};
 use crate::report::Report;
 use std::fmt::Debug;
 
@@ -18,6 +20,12 @@ pub trait Outcome: PartialEq + Debug {
 }
 
 impl Outcome for Answer {
+    fn number(&self) -> u32 {
+        self.number
+    }
+}
+
+impl Outcome for Added {
     fn number(&self) -> u32 {
         self.number
     }

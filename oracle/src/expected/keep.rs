@@ -6,7 +6,7 @@ use crate::library::Answer;
 use lifted::lent::MeshOracle;
 use lifted::math::Vector;
 use lifted::transformation::volume_mesh::isosurface_stuffing::doors::{
-    cover_grid, flood_fill_inside,
+    cover_grid, flood_fill_inside, orient_tet,
 };
 use lifted::transformation::volume_mesh::isosurface_stuffing::BackgroundGrid;
 use lifted::transformation::volume_mesh::{MeshEnclosure, VolumeMeshParameters};
@@ -143,4 +143,47 @@ fn stored(kept: &Kept, points: &mut [u32], cells: &mut [u32]) -> Answer {
     points[..kept.points.len()].copy_from_slice(&kept.points);
     cells[..kept.cells.len()].copy_from_slice(&kept.cells);
     Answer::of(point_count, cell_count, kept.dropped)
+}
+
+/// The step `marks`: which cells the Rust marks, and which of them it leaves out.
+pub fn marks(
+    c: f32,
+    mesh: Mesh,
+    crossing: &[u8],
+    probe: &[u8],
+    marks: &mut [u8],
+    work: &mut [u32],
+) -> Answer {
+    let (cells, need) = (mesh.cell_count(), mesh.cell_count() + mesh.point_count());
+    if !(c > 0.0 && c.is_finite()) {
+        return Answer::refused(1);
+    }
+    if mesh.too_large() {
+        return Answer::refused(4);
+    }
+    if mesh.ragged() || crossing.len() != cells || probe.len() != cells || work.len() < need {
+        return Answer::refused(5);
+    }
+    if above_one(crossing) || above_one(probe) {
+        return Answer::refused(6);
+    }
+    if mesh.names_missing() {
+        return Answer::refused(8);
+    }
+    work[..need].fill(0);
+    if marks.len() < cells {
+        return Answer::short(cells, 0);
+    }
+    let (inside, _) = flooded(mesh, crossing, probe);
+    let (points, least) = (mesh.vectors(), c * c * c * 1.0e-6);
+    for (at, cell) in mesh.quads().into_iter().enumerate() {
+        let is_marked = crossing[at] == 1 || inside[at];
+        marks[at] = match orient_tet(&points, cell, least) {
+            _ if !is_marked => 0,
+            Some(_) => 1,
+            None => 2,
+        };
+    }
+    let count = |kind: u8| marks[..cells].iter().filter(|mark| **mark == kind).count();
+    Answer::of(count(1), count(2), 0)
 }

@@ -5,8 +5,9 @@
 use super::Sizes;
 use crate::expected::mesh::MOST;
 use crate::library::{
-    sf_components, sf_keep_cover, sf_keep_crust, sf_one_piece, sf_read_mesh, sf_read_vtk,
-    sf_representatives, sf_write_mesh, sf_write_vtk, Answer,
+    sf_add_coverage, sf_components, sf_keep_cover, sf_keep_crust, sf_marks, sf_one_piece,
+    sf_read_mesh, sf_read_vtk, sf_representatives, sf_write_mesh, sf_write_vtk, Added, Answer,
+    Totals,
 };
 use crate::random::Random;
 use crate::report::Report;
@@ -63,7 +64,7 @@ const LENGTHS: [(usize, usize, u32); 8] = [
 /// A step on a points table and a cells table with every other table empty.
 type OnMesh = fn(*const f32, usize, *const u32, usize) -> Answer;
 
-const ON_MESH: [(&str, OnMesh); 7] = [
+const ON_MESH: [(&str, OnMesh); 8] = [
     ("components", |p, pl, c, cl| unsafe {
         sf_components(p, pl, c, cl, null_mut(), 0, null_mut(), 0)
     }),
@@ -111,6 +112,23 @@ const ON_MESH: [(&str, OnMesh); 7] = [
             0,
         )
     }),
+    ("marks", |p, pl, c, cl| unsafe {
+        sf_marks(
+            1.0,
+            p,
+            pl,
+            c,
+            cl,
+            null(),
+            0,
+            null(),
+            0,
+            null_mut(),
+            0,
+            null_mut(),
+            0,
+        )
+    }),
     ("keep_crust", |p, pl, c, cl| unsafe {
         sf_keep_crust(
             1.0,
@@ -143,7 +161,10 @@ fn tables(report: &mut Report) {
     for (step, call) in ON_MESH {
         for (points, cells, number) in LENGTHS {
             // With no points no work is missing there; the cells then name a point that is not.
-            let needs_cells = matches!(step, "representatives" | "keep_cover" | "keep_crust");
+            let needs_cells = matches!(
+                step,
+                "representatives" | "keep_cover" | "keep_crust" | "marks"
+            );
             let wanted = match (points, cells % 4) {
                 (0, 0) if number == 5 && !needs_cells => 8,
                 _ => number,
@@ -152,6 +173,28 @@ fn tables(report: &mut Report) {
             let told = format!("points table of {points}, cells table of {cells}, all zero");
             counted(step, answer, Answer::refused(wanted), &told, report);
         }
+    }
+}
+
+/// Coverage takes no work, so that tables at the bound and whole would be read: those are left out.
+fn coverages(report: &mut Report) {
+    let Some(pages) = Pages::new(16 * (MOST + 2)) else {
+        return;
+    };
+    let totals = Totals {
+        cells: 1,
+        ..Totals::default()
+    };
+    for (triples, cells, number) in &LENGTHS[1..] {
+        let start: *const u32 = pages.start.cast();
+        let got = unsafe { sf_add_coverage(totals, start, *triples, start, *cells, null(), 0) };
+        let wanted = Added {
+            number: *number,
+            totals,
+        };
+        let told = format!("triples table of {triples}, cells table of {cells}, all zero");
+        let difference = (got != wanted).then(|| format!("{got:?}, expected {wanted:?}; {told}"));
+        report.count("add_coverage", *number, difference);
     }
 }
 
@@ -234,6 +277,7 @@ fn vtk_files(report: &mut Report) {
 
 pub fn run(_: &mut Random, sizes: &Sizes, report: &mut Report) {
     tables(report);
+    coverages(report);
     mesh_files(sizes, report);
     vtk_files(report);
 }

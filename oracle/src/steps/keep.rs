@@ -1,9 +1,11 @@
-//! Representatives, keeping, components, one piece: random meshes, then everything that is refused.
+//! Representatives, keeping, marks, components, one piece: random meshes, then everything that is refused.
 
 use super::meshes::{answers, any, Sample};
 use super::rooms::{lengths, resized};
 use super::Sizes;
-use crate::calls::{compare, ComponentsCall, Input, KeepCall, OnePieceCall, RepresentativesCall};
+use crate::calls::{
+    compare, ComponentsCall, Input, KeepCall, MarksCall, OnePieceCall, RepresentativesCall,
+};
 use crate::expected::keep::{kept, representatives_of};
 use crate::lent::Lent;
 use crate::random::Random;
@@ -61,7 +63,7 @@ impl Asked {
 }
 
 /// Sets an entry, if there is one.
-fn set<T: Copy>(random: &mut Random, table: &mut [T], to: &[T]) {
+pub fn set<T: Copy>(random: &mut Random, table: &mut [T], to: &[T]) {
     if !table.is_empty() {
         table[random.below(table.len())] = random.pick(to);
     }
@@ -111,6 +113,23 @@ pub fn keep(random: &mut Random, cover: bool) -> KeepCall {
     }
 }
 
+pub fn marks(random: &mut Random) -> MarksCall {
+    let mut asked = asked(random);
+    let mesh = asked.sample.mesh();
+    let (count, need) = (mesh.cell_count(), mesh.cell_count() + mesh.point_count());
+    asked.spoil(random);
+    let (points, cells) = asked.lens();
+    let room = lengths(random, [points, cells, count, count, count, need]);
+    MarksCall {
+        c: asked.sample.c,
+        input: asked.input(room[0], room[1]),
+        crossing: Lent::new(&resized(&asked.crossing, room[2], 0)),
+        probe: Lent::new(&resized(&asked.probe, room[3], 1)),
+        marks: Lent::new(&random.dirt_bytes(room[4])),
+        work: Lent::new(&random.dirt(room[5])),
+    }
+}
+
 pub fn components(random: &mut Random) -> ComponentsCall {
     let mut asked = asked(random);
     asked.spoil(random);
@@ -149,6 +168,12 @@ pub fn run_cover(random: &mut Random, sizes: &Sizes, report: &mut Report) {
 pub fn run_crust(random: &mut Random, sizes: &Sizes, report: &mut Report) {
     for _ in 0..sizes.meshes {
         compare(&keep(random, false), report);
+    }
+}
+
+pub fn run_marks(random: &mut Random, sizes: &Sizes, report: &mut Report) {
+    for _ in 0..sizes.meshes {
+        compare(&marks(random), report);
     }
 }
 

@@ -1,6 +1,7 @@
 //! The inputs of the comparison, step by step.
 
 pub mod boxes;
+pub mod coverage;
 mod crossings;
 pub mod damage;
 pub mod files;
@@ -68,13 +69,15 @@ impl Sizes {
 type Run = fn(&mut Random, &Sizes, &mut Report);
 
 /// Each step's name and its runner.
-const STEPS: [(&str, Run); 11] = [
+const STEPS: [(&str, Run); 13] = [
     ("plan", plan::run),
     ("refine", refine::run),
     ("grid", grid::run),
     ("representatives", keep::run_representatives),
     ("keep_cover", keep::run_cover),
     ("keep_crust", keep::run_crust),
+    ("marks", keep::run_marks),
+    ("add_coverage", coverage::run),
     ("components", keep::run_components),
     ("one_piece", keep::run_one_piece),
     ("mesh_file", files::run_mesh),

@@ -7,16 +7,17 @@ use lifted::lent::MeshOracle;
 use lifted::math::Vector;
 use lifted::transformation::volume_mesh::cover_octree::doors::{refined_octree, Tree};
 use lifted::transformation::volume_mesh::isosurface_stuffing::doors::{
-    cover_grid, domain, flood_fill_inside, lattice_over, uniform_grid,
+    cover_grid, domain, flood_fill_inside, lattice_over, orient_tet, uniform_grid,
 };
 use lifted::transformation::volume_mesh::isosurface_stuffing::BackgroundGrid;
 use lifted::transformation::volume_mesh::{MeshEnclosure, VolumeMesh, VolumeMeshParameters};
 use oracle::calls::{
-    Call, ComponentsCall, Format, GridCall, Input as MeshInput, KeepCall, OnePieceCall, PlanCall,
-    ReadCall, RefineCall, RepresentativesCall, WriteCall,
+    Call, ComponentsCall, CoverageCall, Format, GridCall, Input as MeshInput, KeepCall, MarksCall,
+    OnePieceCall, PlanCall, ReadCall, RefineCall, RepresentativesCall, WriteCall,
 };
 use oracle::expected::plan::{aabb, octree, parameters, planned};
 use oracle::lent::{Entry, Lent};
+use oracle::library::Totals;
 use oracle::random::Random;
 use oracle::steps::boxes;
 use std::hint::black_box;
@@ -99,6 +100,8 @@ pub fn on_input(input: &Input, table: &mut Table) {
     mesh.representatives(table);
     mesh.keep(table, true);
     mesh.keep(table, false);
+    mesh.marks(table);
+    mesh.coverage(table);
     mesh.components(table);
     mesh.one_piece(table);
     for format in [Format::Mesh, Format::Vtk] {
@@ -176,6 +179,33 @@ fn grid(input: &Input, tree: Option<Tree>, table: &mut Table) -> BackgroundGrid 
         || answered(&mut call),
     );
     found
+}
+
+/// The totals of a grid in plain Rust, `None` where it is refused.
+fn plain_coverage(triples: &[u32], cells: &[[u32; 4]], marks: &[u8]) -> Option<[u64; 5]> {
+    let vertices = triples.len() / 3;
+    let named = |cell: &[u32; 4]| cell.iter().all(|v| (*v as usize) < vertices);
+    let judged = marks.iter().all(|mark| *mark <= 2)
+        && cells.iter().all(named)
+        && triples.iter().all(|x| *x <= 4096);
+    let mut sums = [0u64; 5];
+    for (cell, mark) in cells.iter().zip(marks) {
+        let at = |v: usize| -> [i64; 3] {
+            std::array::from_fn(|axis| i64::from(triples[3 * cell[v] as usize + axis]))
+        };
+        let (o, [a, b, c]) = (at(0), [at(1), at(2), at(3)]);
+        let edge = |to: [i64; 3]| -> [i64; 3] { std::array::from_fn(|axis| to[axis] - o[axis]) };
+        let [u, v, w] = [edge(a), edge(b), edge(c)];
+        let minor = |i: usize, j: usize| u[i] * v[j] - v[i] * u[j];
+        let six = minor(1, 2) * w[0] + minor(2, 0) * w[1] + minor(0, 1) * w[2];
+        let kept = u64::from(*mark == 1);
+        let six = six.unsigned_abs();
+        let gains = [1, kept, u64::from(*mark == 2), kept * six, six];
+        for (sum, gain) in sums.iter_mut().zip(gains) {
+            *sum = sum.checked_add(gain)?;
+        }
+    }
+    judged.then_some(sums)
 }
 
 /// A grid as a mesh, with answers for its cells.
@@ -267,6 +297,58 @@ impl<'a> Meshed<'a> {
             work: dirty(cells + 2 * points),
         };
         table.row(step, self.name, &self.size, rust, || answered(&mut call));
+    }
+
+    /// Beside the published flood fill and the published verdict, cell by cell.
+    fn marks(&self, table: &mut Table) {
+        let (points, cells) = self.counts();
+        let crossed: Vec<bool> = self.crossing.iter().map(|byte| *byte == 1).collect();
+        let (points_of, cells_of) = (&self.grid.points, &self.grid.cells);
+        let least = 0.01f32 * 0.01 * 0.01 * 1.0e-6;
+        let rust = || {
+            let oracle = MeshOracle::of_cells(&self.crossing, &self.probe);
+            let mark =
+                |(at, cell): (usize, &[u32; 4]), inside: &[bool]| match crossed[at] || inside[at] {
+                    false => 0,
+                    true if orient_tet(points_of, *cell, least).is_some() => 1,
+                    true => 2,
+                };
+            timed(|| {
+                let inside = flood_fill_inside(&oracle, points_of, cells_of, &crossed);
+                let marked = cells_of.iter().enumerate().map(|cell| mark(cell, &inside));
+                marked.collect::<Vec<u8>>()
+            })
+            .1
+        };
+        let mut call = MarksCall {
+            c: 0.01,
+            input: self.input.clone(),
+            crossing: Lent::new(&self.crossing),
+            probe: Lent::new(&self.probe),
+            marks: dirty(cells),
+            work: dirty(cells + points),
+        };
+        table.row("marks", self.name, &self.size, rust, || answered(&mut call));
+    }
+
+    /// Beside a plain loop that judges the tables and adds up.
+    fn coverage(&self, table: &mut Table) {
+        let triples: Vec<u32> = (self.grid.coords.iter().flatten().map(|x| *x as u32)).collect();
+        let cells = self.grid.cells.as_flattened();
+        let marks = &self.crossing;
+        let mut call = CoverageCall {
+            totals: Totals::default(),
+            triples: Lent::new(&triples),
+            cells: Lent::new(cells),
+            marks: Lent::new(marks),
+        };
+        let rust = || timed(|| plain_coverage(&triples, &self.grid.cells, marks)).1;
+        let ours = || {
+            let (answer, time) = timed(|| call.library());
+            assert_eq!(answer.number, 0, "{} refused: {}", call.step(), call.told());
+            time
+        };
+        table.row("add_coverage", self.name, &self.size, rust, ours);
     }
 
     fn volume_mesh(&self) -> VolumeMesh {

@@ -113,7 +113,7 @@ const HOW: &str = "
 - Ours: tables are made and filled before the first call, so their pages are there, and are lent again as the call before left them; nothing is cleared between calls. The steps zero their work themselves, inside the time taken.
 - The Rust: the lifted functions of oracle/lifted (oracle/CHANGES.md), which allocate what they need inside the time taken, as the published code does; their arguments are made before. Its map is the standard one with a hasher that folds products as foldhash does.
 - plan: the first row's Rust is the domain and the lattice alone, as published, which refuse nothing; the second row's is the oracle's model of the whole step, which judges refusals 1 to 4 as ours does. A plan that is refused at once tells what the call through the C boundary takes.
-- refine: the Rust's refinement and `balance`, answers from a table. grid: `background_grid` of the split octree, `uniform_grid` for L 0. representatives: `flood_fill_inside`. keep: `cover_grid` with `compact`. components, one piece: `connected_components`.
+- refine: the Rust's refinement and `balance`, answers from a table. grid: `background_grid` of the split octree, `uniform_grid` for L 0. representatives: `flood_fill_inside`. keep: `cover_grid` with `compact`. marks: `flood_fill_inside`, and `orient_tet` of each marked cell. add_coverage: a plain loop that judges the tables and adds up. components, one piece: `connected_components`.
 - The Rust has no file. Its column for write and read is `connected_components` and one copy of the file's bytes, the least that a writer or a reader in Rust must do.
 - A shell is a sphere's surface: crossed octants, or cells with vertices on both of its sides; cells within are inside.
 ";

@@ -9,7 +9,8 @@ use oracle::expected::plan::OCTANTS;
 use oracle::expected::refine::split_table;
 use oracle::random::Random;
 use oracle::steps::{
-    boxes, crossing, damage, files, grid, keep, meshes, refine, rooms, vtk_headers, worked,
+    boxes, coverage, crossing, damage, files, grid, keep, meshes, refine, rooms, vtk_headers,
+    worked,
 };
 
 /// How many random calls of a step are looked at.
@@ -169,5 +170,7 @@ pub fn all(seed: u64) -> Tape {
     }
     headings(&mut tape, random);
     too_large(&mut tape, random);
+    offered(&mut tape, random, keep::marks);
+    offered(&mut tape, random, coverage::any);
     tape
 }

@@ -2,11 +2,12 @@
 //! answered by value.
 
 use oracle::calls::{
-    Call, ComponentsCall, GridCall, KeepCall, OnePieceCall, PlanCall, ReadCall, RefineCall,
-    RepresentativesCall, WriteCall,
+    Call, ComponentsCall, CoverageCall, GridCall, KeepCall, MarksCall, OnePieceCall, PlanCall,
+    ReadCall, RefineCall, RepresentativesCall, WriteCall,
 };
 use oracle::lent::{Entry, Lent};
-use oracle::library::{Answer, Planned};
+use oracle::library::{Added, Answer, Planned, Totals};
+use std::borrow::Cow;
 
 /// What the program fills a table with before the call.
 trait Filled: Entry {
@@ -39,7 +40,7 @@ pub struct Tables<'a> {
     pub points: &'a [u32],
     pub cells: &'a [u32],
     pub crossing: &'a [u8],
-    pub probe: &'a [u8],
+    pub probe: Cow<'a, [u8]>,
     pub written: [&'a [u32]; 3],
     pub written_bytes: &'a [u8],
     pub written_longs: &'a [u64],
@@ -65,7 +66,7 @@ impl Tables<'_> {
 
     /// The contents of the inputs.
     pub fn contents(&self) -> Vec<u32> {
-        let bytes = [packed(self.crossing), packed(self.probe)].concat();
+        let bytes = [packed(self.crossing), packed(&self.probe)].concat();
         [self.points, self.cells, &bytes].concat()
     }
 
@@ -95,6 +96,22 @@ pub trait Values {
 impl Values for Answer {
     fn values(&self) -> Vec<u64> {
         vec![self.number.into(), self.first, self.second, self.third]
+    }
+}
+
+fn five(totals: &Totals) -> [u64; 5] {
+    [
+        totals.cells,
+        totals.kept,
+        totals.dropped,
+        totals.sixfold_kept,
+        totals.sixfold_all,
+    ]
+}
+
+impl Values for Added {
+    fn values(&self) -> Vec<u64> {
+        [&[self.number.into()][..], &five(&self.totals)].concat()
     }
 }
 
@@ -193,8 +210,44 @@ impl Record for KeepCall {
             points: self.input.points.all(),
             cells: self.input.cells.all(),
             crossing: self.crossing.all(),
-            probe: self.probe.as_ref().map_or(&[], Lent::all),
+            probe: self.probe.as_ref().map_or(&[][..], Lent::all).into(),
             written: [&self.kept_points, &self.kept_cells, &self.work].map(Lent::all),
+            ..Tables::default()
+        }
+    }
+}
+
+impl Record for MarksCall {
+    fn refill(&mut self) {
+        refill([&mut self.marks]);
+        refill([&mut self.work]);
+    }
+
+    fn tables(&self) -> Tables<'_> {
+        Tables {
+            plan: size(self.c),
+            points: self.input.points.all(),
+            cells: self.input.cells.all(),
+            crossing: self.crossing.all(),
+            probe: self.probe.all().into(),
+            written: [self.work.all(), &[], &[]],
+            written_bytes: self.marks.all(),
+            ..Tables::default()
+        }
+    }
+}
+
+impl Record for CoverageCall {
+    fn refill(&mut self) {}
+
+    /// The totals stand on the tape where others have a probe table.
+    fn tables(&self) -> Tables<'_> {
+        let totals = five(&self.totals).map(u64::to_le_bytes);
+        Tables {
+            points: self.triples.all(),
+            cells: self.cells.all(),
+            crossing: self.marks.all(),
+            probe: totals.concat().into(),
             ..Tables::default()
         }
     }

@@ -5,7 +5,7 @@ use oracle::calls::Outcome;
 use std::collections::BTreeMap;
 
 /// The steps in the order of their numbers on the tape.
-const STEPS: [&str; 12] = [
+const STEPS: [&str; 14] = [
     "plan",
     "refine",
     "grid",
@@ -18,6 +18,8 @@ const STEPS: [&str; 12] = [
     "read_mesh",
     "write_vtk",
     "read_vtk",
+    "marks",
+    "add_coverage",
 ];
 /// The most entries of a table that the program has room for.
 const MOST_ENTRIES: usize = 16_384;

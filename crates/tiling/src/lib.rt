@@ -1,0 +1,1 @@
+// The volumes of a grid's cells, which make up its box.
