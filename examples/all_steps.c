@@ -127,7 +127,11 @@ int main(void) {
 
     told("components",
          sf_components(kept_points, points_len, kept_cells, cells_len, numbers, cells, work, work_len));
-    told("one_piece", sf_one_piece(kept_points, points_len, kept_cells, cells_len, work, work_len));
+    size_t by_faces = 16 * kept.second;
+    uint32_t *faces = table(by_faces, sizeof *faces);
+    told("face_components",
+         sf_face_components(kept_points, points_len, kept_cells, cells_len, numbers, cells, faces, by_faces));
+    told("one_piece", sf_one_piece(kept_points, points_len, kept_cells, cells_len, faces, by_faces));
 
     /* To a file and back, and to a viewer's file and back. */
     float *points_read = table(points_len, sizeof *points_read);
@@ -147,7 +151,7 @@ int main(void) {
     same = same && memcmp(cells_read, kept_cells, 4 * cells_len) == 0;
     printf("%-15s %s\n", "read back", same ? "the same mesh" : "another mesh");
 
-    void *rooms[] = {crossing, split, grid, triples, points, crossed, probe, work, numbers, centroids, kept_points,
+    void *rooms[] = {crossing, split, grid, triples, points, crossed, probe, work, numbers, centroids, faces, kept_points,
                      kept_cells, file, viewed, points_read, cells_read};
     for (size_t n = 0; n < sizeof rooms / sizeof *rooms; n++) free(rooms[n]);
     return same ? 0 : 1;

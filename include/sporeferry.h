@@ -25,7 +25,7 @@
  *   `number` is 0 for an answer, else the number of the refusal. On an answer `first`, `second`, `third` hold its
  *   values, on a 9 the counts that are needed, on a 4 of refine and grid `first` is what the plan's 4 names, else 0.
  *   Values that a function does not name are 0.
- *   The lowest number that applies is given; the two readers have an order of their own.
+ *   The lowest number that applies is given, but 17 stands between 8 and 9; the two readers have an order of their own.
  *
  *    1  the cell size c is zero, negative, NaN or infinite
  *    2  a bound of the box is not finite, or a min stands above its max
@@ -46,6 +46,7 @@
  *   14  a VTK file departs from the layout
  *   15  a cell of a VTK file is not of type 10, or not led by a four
  *   16  a coordinate above 4,096 in a table of triples, or a total that does not fit 64 bits
+ *   17  a cell names one point twice
  *
  * Result and work tables
  *   A result table is as it was lent after every refusal: there is never a part of a result. After an answer its first
@@ -197,10 +198,22 @@ sf_answer sf_components(const float *points, size_t points_len,
                         uint32_t *numbers, size_t numbers_len,
                         uint32_t *work, size_t work_len);
 
-/* Whether the mesh is one piece: whether it has exactly one component number. A mesh without cells is not.
+/* The numbering by faces: cells that have three points in common are joined, step by step, and joined cells have the same
+ * number; numbers count up from 0 by first appearance. It refines the numbers of sf_components: cells with one number
+ * here have one number there.
+ * Answer: first = how many numbers there are; numbers[0..cells). Work is zero.
+ * Work needed: 16 * cells entries.
+ * Refusals, in this order: 4; 5 points_len not by 3, cells_len not by 4, or work short; 8; 17; 9 numbers short,
+ * first = cells. */
+sf_answer sf_face_components(const float *points, size_t points_len,
+                             const uint32_t *cells, size_t cells_len,
+                             uint32_t *numbers, size_t numbers_len,
+                             uint32_t *work, size_t work_len);
+
+/* Whether the mesh is one piece: whether it has exactly one number by faces. A mesh without cells is not.
  * Answer: first = 1 or 0. Work is zero.
- * Work needed: 2 * points entries.
- * Refusals: 4; 5 points_len not by 3, cells_len not by 4, or work short; 8. */
+ * Work needed: 16 * cells entries.
+ * Refusals: 4; 5 points_len not by 3, cells_len not by 4, or work short; 8; 17. */
 sf_answer sf_one_piece(const float *points, size_t points_len,
                        const uint32_t *cells, size_t cells_len,
                        uint32_t *work, size_t work_len);

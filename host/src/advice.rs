@@ -13,7 +13,7 @@ pub const MOST_LEVELS: u32 = 5;
 const MOST_OCTANTS: f64 = 1_048_576.0;
 
 /// What the memory in use comes to, in bytes for a cell of the grid and for a triangle (docs/SPEED.md).
-const BYTES_A_CELL: u64 = 54;
+const BYTES_A_CELL: u64 = 61;
 const BYTES_A_TRIANGLE: u64 = 120;
 
 /// What comes of a plan.

@@ -118,6 +118,17 @@ extern "C" {
         work_len: usize,
     ) -> Answer;
 
+    pub fn sf_face_components(
+        points: *const f32,
+        points_len: usize,
+        cells: *const u32,
+        cells_len: usize,
+        numbers: *mut u32,
+        numbers_len: usize,
+        work: *mut u32,
+        work_len: usize,
+    ) -> Answer;
+
     pub fn sf_one_piece(
         points: *const f32,
         points_len: usize,

@@ -2,7 +2,7 @@
 
 use crate::arguments::{AdviseOrder, CoverOrder, CoverageOrder, Files, PartOrder};
 use crate::evidence;
-use crate::numbers::{bytes_in_words, grouped, measure};
+use crate::numbers::{bytes_in_words, grouped, measure, pieces_in_words};
 use crate::report::{about, Report, Told};
 use crate::source::Source;
 use sporeferry::advice::{finest, instead, least_cell, Forecast, MOST_LEVELS};
@@ -92,7 +92,7 @@ fn tell_mesh(report: &mut Report, covered: &Covered, source: &Source, crust: boo
     report.line("kept", grouped(covered.mesh.cells.len()));
     report.line("dropped", grouped(covered.dropped));
     report.line("points", grouped(covered.mesh.points.len()));
-    report.line("pieces", grouped(covered.pieces));
+    report.line("pieces", pieces_in_words(&covered.pieces));
     report.line("volume", format!("{}{compared}", measure(volume)));
     report.line("covered", coverage_words(&covered.totals));
 }

@@ -7,7 +7,7 @@ use crate::crossed::Crossed;
 use crate::edges::Openings;
 use crate::grid::{Grid, Kept};
 use crate::lent::Totals;
-use crate::mesh::Mesh;
+use crate::mesh::{Mesh, Pieces};
 use crate::part::Part;
 use crate::plan::Plan;
 use crate::progress::staged;
@@ -44,7 +44,7 @@ pub struct Covered {
     /// The totals asked for with this grid added: its cells, those kept and dropped, and six times their volumes in
     /// whole units.
     pub totals: Totals,
-    pub pieces: u64,
+    pub pieces: Pieces,
     /// The mesh's volume.
     pub volume: f64,
 }
@@ -110,7 +110,7 @@ impl From<Refusal> for CoverError {
 /// let part = Part::new(vec![[o, y, x], [o, x, z], [o, z, y], [x, y, z]]);
 /// let request = Request { cell: 1.0, levels: 1, ..Request::default() };
 /// let covered = cover(&part, request).unwrap();
-/// assert_eq!(covered.pieces, 1);
+/// assert_eq!(covered.pieces.by_faces, Some(1));
 /// assert!(covered.volume > 64.0 / 6.0);
 /// ```
 pub fn cover(part: &Part, request: Request) -> Result<Covered, CoverError> {
@@ -135,9 +135,11 @@ pub fn cover(part: &Part, request: Request) -> Result<Covered, CoverError> {
         let marks = grid.marks(request.cell, &crossing, &probe)?;
         grid.add_coverage(request.totals, &marks.bytes)
     })?;
+    // The pieces by faces take 64 bytes of work a kept cell: the grid's tables go first.
+    drop((grid, crossing, probe));
     Ok(Covered {
         totals,
-        pieces: staged("pieces", || kept.mesh.components())?.count,
+        pieces: staged("pieces", || kept.mesh.pieces())?,
         volume: kept.mesh.volume(),
         mesh: kept.mesh,
         dropped: kept.dropped,

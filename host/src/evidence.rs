@@ -65,7 +65,8 @@ fn of_mesh(path: &Path, covered: &Covered, file: &[u8]) -> Json {
         ("points", covered.mesh.points.len().into()),
         ("cells", covered.mesh.cells.len().into()),
         ("dropped", covered.dropped.into()),
-        ("pieces", covered.pieces.into()),
+        ("pieces", covered.pieces.by_faces.into()),
+        ("pieces_by_vertices", covered.pieces.by_vertices.into()),
         ("volume", covered.volume.into()),
         ("coverage", of_totals(&covered.totals)),
     ])

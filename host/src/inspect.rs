@@ -3,7 +3,7 @@
 use crate::arguments::InfoOrder;
 use crate::commands::{is_vtk, read_mesh, read_vtk};
 use crate::evidence;
-use crate::numbers::{grouped, measure};
+use crate::numbers::{grouped, measure, pieces_in_words};
 use crate::report::{about, Report, Told};
 use sporeferry::json::Json;
 use sporeferry::progress::staged;
@@ -20,7 +20,7 @@ pub fn info(order: &InfoOrder) -> Result<Told, String> {
         false => ("mesh file", read_mesh(&bytes)),
     };
     let mesh = mesh.map_err(about(path))?;
-    let pieces = staged("pieces", || mesh.components()).map_err(about(path))?.count;
+    let pieces = staged("pieces", || mesh.pieces()).map_err(about(path))?;
     let quality = Quality::new(&mesh);
     let boundary = staged("boundary", || Boundary::new(&mesh));
 
@@ -29,7 +29,7 @@ pub fn info(order: &InfoOrder) -> Result<Told, String> {
     report.line("reads", format!("yes, as a {kind}"));
     report.line("points", grouped(mesh.points.len()));
     report.line("cells", grouped(mesh.cells.len()));
-    report.line("pieces", grouped(pieces));
+    report.line("pieces", pieces_in_words(&pieces));
     report.line("box", box_of(&mesh));
     tell_quality(&mut report, &quality);
     report.line("boundary", boundary_in_words(&boundary));
@@ -43,7 +43,8 @@ pub fn info(order: &InfoOrder) -> Result<Told, String> {
         ("bytes", bytes.len().into()),
         ("points", mesh.points.len().into()),
         ("cells", mesh.cells.len().into()),
-        ("pieces", pieces.into()),
+        ("pieces", pieces.by_faces.into()),
+        ("pieces_by_vertices", pieces.by_vertices.into()),
         ("quality", of_quality(&quality)),
         ("boundary", of_boundary(&boundary)),
         ("evidence_agrees", evidence.as_ref().map(Result::is_ok).into()),

@@ -223,6 +223,16 @@ pub fn components(points: &[f32], cells: &[u32], numbers: &mut [u32], work: &mut
     call!(sf_components; ; points, cells; numbers, work)
 }
 
+/// `sf_face_components`.
+pub fn face_components(
+    points: &[f32],
+    cells: &[u32],
+    numbers: &mut [u32],
+    work: &mut [u32],
+) -> Answer {
+    call!(sf_face_components; ; points, cells; numbers, work)
+}
+
 /// `sf_one_piece`.
 pub fn one_piece(points: &[f32], cells: &[u32], work: &mut [u32]) -> Answer {
     call!(sf_one_piece; ; points, cells; work)

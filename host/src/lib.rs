@@ -2,8 +2,9 @@
 //!
 //! The steps are [`Plan::new`], [`Plan::refine`], [`Plan::grid`], [`Grid::representatives`],
 //! [`Grid::keep_cover`], [`Grid::keep_crust`], [`Grid::marks`], [`Grid::add_coverage`], [`Mesh::components`],
-//! [`Mesh::one_piece`], [`Mesh::to_bytes`], [`Mesh::from_bytes`], [`Mesh::to_vtk`] and [`Mesh::from_vtk`]. Each sizes
-//! and lends the tables of one function of `include/sporeferry.h` and gives its answer or a [`Refusal`]. That library
+//! [`Mesh::face_components`], [`Mesh::one_piece`], [`Mesh::to_bytes`], [`Mesh::from_bytes`], [`Mesh::to_vtk`] and
+//! [`Mesh::from_vtk`]. Each sizes and lends the tables of one function of `include/sporeferry.h` and gives its answer
+//! or a [`Refusal`]. That library
 //! is proved; these bindings and the modules below are ordinary Rust, tested and not proved.
 //!
 //! [`lent`] has the same functions over tables of the caller's own. [`cover::cover`] goes the whole way from a
@@ -53,6 +54,6 @@ pub mod weld;
 pub mod whole_file;
 
 pub use grid::{Grid, Kept, Marks, Representative};
-pub use mesh::{Components, Mesh};
+pub use mesh::{Components, Mesh, Pieces};
 pub use plan::{Bounds, Plan, Refined};
 pub use refusal::{Refusal, Step, TooLarge};

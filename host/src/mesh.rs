@@ -1,4 +1,4 @@
-//! Meshes: component numbers, one piece, and files of both kinds.
+//! Meshes: numbers by vertices and by faces, pieces, and files of both kinds.
 
 use crate::lent::{self, Answer};
 use crate::refusal::{Refusal, Step};
@@ -16,13 +16,22 @@ pub struct Mesh {
     pub cells: Vec<[u32; 4]>,
 }
 
-/// The answer of [`Mesh::components`].
+/// The answer of [`Mesh::components`] and of [`Mesh::face_components`].
 #[derive(Clone, Debug, PartialEq, Eq)]
 pub struct Components {
     /// A number for each cell, counted up from 0 by first appearance.
     pub numbers: Vec<u32>,
     /// How many different numbers there are.
     pub count: u64,
+}
+
+/// In how many pieces a mesh is: the answer of [`Mesh::pieces`].
+#[derive(Clone, Copy, Debug, PartialEq, Eq)]
+pub struct Pieces {
+    /// Joined through whole faces; nothing where a cell names one point twice.
+    pub by_faces: Option<u64>,
+    /// Joined through shared vertices, as the files number them.
+    pub by_vertices: u64,
 }
 
 impl Mesh {
@@ -44,19 +53,55 @@ impl Mesh {
         Ok(Components { numbers, count })
     }
 
-    /// Whether all cells have the same component number; a mesh without cells is not one piece.
-    /// Refused with 4 or 8.
+    /// A number for each cell; cells joined through whole faces, three points in common, have the same one. It refines
+    /// the numbers of [`Mesh::components`]. Refused with 4, 8 or 17.
     ///
     /// ```
     /// use sporeferry::Mesh;
-    /// let mesh = Mesh { points: vec![[0.0; 3]; 4], cells: vec![[0, 1, 2, 3]] };
+    /// let cells = vec![[0, 1, 2, 3], [3, 4, 5, 6], [0, 3, 2, 7]];
+    /// let mesh = Mesh { points: vec![[0.0; 3]; 8], cells };
+    /// let faces = mesh.face_components().unwrap();
+    /// assert_eq!((faces.numbers, faces.count), (vec![0, 1, 0], 2));
+    /// assert_eq!(mesh.components().unwrap().count, 1);
+    /// ```
+    pub fn face_components(&self) -> Result<Components, Refusal> {
+        let (points, cells) = self.tables();
+        let mut numbers = vec![0; self.cells.len()];
+        let answer = lent::face_components(points, cells, &mut numbers, &mut self.face_work());
+        let [count, ..] = answer.told(Step::FaceComponents)?;
+        Ok(Components { numbers, count })
+    }
+
+    /// Whether all cells have the same number by faces; a mesh without cells is not one piece.
+    /// Refused with 4, 8 or 17.
+    ///
+    /// ```
+    /// use sporeferry::Mesh;
+    /// let mesh = Mesh { points: vec![[0.0; 3]; 7], cells: vec![[0, 1, 2, 3]] };
     /// assert_eq!(mesh.one_piece(), Ok(true));
+    /// let hinge = Mesh { cells: vec![[0, 1, 2, 3], [3, 4, 5, 6]], ..mesh };
+    /// assert_eq!(hinge.one_piece(), Ok(false));
     /// assert_eq!(Mesh::default().one_piece(), Ok(false));
     /// ```
     pub fn one_piece(&self) -> Result<bool, Refusal> {
         let (points, cells) = self.tables();
-        let answer = lent::one_piece(points, cells, &mut self.work());
+        let answer = lent::one_piece(points, cells, &mut self.face_work());
         Ok(answer.told(Step::OnePiece)?[0] == 1)
+    }
+
+    /// In how many pieces the mesh is, by faces and by vertices. Refused with 4 or 8.
+    pub fn pieces(&self) -> Result<Pieces, Refusal> {
+        let by_faces = match self.face_components() {
+            Ok(faces) => Some(faces.count),
+            Err(refusal) if refusal.number == 17 => None,
+            Err(refusal) => return Err(refusal),
+        };
+        // Cells with one number by faces have one by vertices too.
+        let by_vertices = match by_faces {
+            Some(count @ (0 | 1)) => count,
+            _ => self.components()?.count,
+        };
+        Ok(Pieces { by_faces, by_vertices })
     }
 
     /// The bytes of the mesh's file. Refused with 4 or 8.
@@ -152,5 +197,9 @@ impl Mesh {
 
     fn work(&self) -> Vec<u32> {
         vec![0; 2 * self.points.len()]
+    }
+
+    fn face_work(&self) -> Vec<u32> {
+        vec![0; 16 * self.cells.len()]
     }
 }

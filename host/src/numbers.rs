@@ -1,5 +1,7 @@
 //! Numbers as people read them.
 
+use sporeferry::Pieces;
+
 /// A count with a comma after every third digit from the end.
 pub fn grouped(count: impl TryInto<u64>) -> String {
     let digits = count.try_into().unwrap_or(u64::MAX).to_string();
@@ -11,6 +13,19 @@ pub fn grouped(count: impl TryInto<u64>) -> String {
         text.push(digit);
     }
     text
+}
+
+/// In how many pieces a mesh is, by vertices too where that differs.
+pub fn pieces_in_words(pieces: &Pieces) -> String {
+    let by_vertices = grouped(pieces.by_vertices);
+    match pieces.by_faces {
+        Some(count) if count == pieces.by_vertices => by_vertices,
+        Some(count) => format!(
+            "{} by faces, joined only at a vertex or an edge: no load passes; {by_vertices} by vertices",
+            grouped(count)
+        ),
+        None => format!("{by_vertices} by vertices; none are told by faces: a cell names one point twice"),
+    }
 }
 
 /// A measure with six digits.

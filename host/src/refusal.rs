@@ -14,6 +14,7 @@ pub enum Step {
     Marks,
     AddCoverage,
     Components,
+    FaceComponents,
     OnePiece,
     WriteMesh,
     ReadMesh,
@@ -34,6 +35,7 @@ impl Step {
             Step::Marks => "marks",
             Step::AddCoverage => "add coverage",
             Step::Components => "components",
+            Step::FaceComponents => "face components",
             Step::OnePiece => "one piece",
             Step::WriteMesh => "write mesh",
             Step::ReadMesh => "read mesh",
@@ -69,7 +71,7 @@ pub const AXES: [&str; 3] = ["x", "y", "z"];
 #[derive(Clone, Copy, Debug, PartialEq, Eq)]
 pub struct Refusal {
     pub step: Step,
-    /// The refusal's number, 1 to 16.
+    /// The refusal's number, 1 to 17.
     pub number: u32,
     /// The counts needed on a 9, in the order the header names them; on a 4 of plan, refine and grid first what it
     /// names; else zeros.
@@ -120,6 +122,7 @@ impl Refusal {
             14 => "the file departs from the layout of our VTK files".into(),
             15 => "a cell of the file is no tetrahedron of four points".into(),
             16 => "a coordinate is above 4,096, or a total does not fit 64 bits".into(),
+            17 => "a cell names one point twice".into(),
             number => format!("the library gave {number}, a number these bindings do not know"),
         }
     }

@@ -22,7 +22,7 @@ fn comes_down(part: &Part, steps: &[(f32, u32)]) {
     for (cell, levels) in steps {
         let covered = covered(part, *cell, *levels);
         let mesh = covered.mesh;
-        assert_eq!((covered.pieces, mesh.one_piece()), (1, Ok(true)));
+        assert_eq!((covered.pieces.by_faces, mesh.one_piece()), (Some(1), Ok(true)));
         let beyond = mesh.volume() - volume;
         assert!(0.0 < beyond && beyond < 0.6 * before, "{beyond} at {cell}, before {before}");
         before = beyond;

@@ -309,6 +309,25 @@ fn files_of_another_kind_are_named() {
 }
 
 #[test]
+fn pieces_are_told_by_faces() {
+    let cells = [
+        vec![[0, 1, 2, 3], [3, 4, 5, 6]],
+        vec![[0, 1, 2, 3], [2, 3, 4, 1]],
+        vec![[0, 1, 2, 3], [3, 4, 4, 6]],
+    ];
+    let told_of = [
+        "2 by faces, joined only at a vertex or an edge: no load passes; 1 by vertices",
+        "1",
+        "1 by vertices; none are told by faces: a cell names one point twice",
+    ];
+    for (cells, words) in cells.into_iter().zip(told_of) {
+        let mesh = Mesh { points: vec![[0.5; 3]; 7], cells };
+        let folder = folder_with("pieces", &[("a.mesh", &mesh.to_bytes().unwrap()[..])]);
+        assert_eq!(told(&does(&folder, "info a.mesh"), "pieces"), words);
+    }
+}
+
+#[test]
 fn a_mesh_goes_to_a_viewer_and_back() {
     let mesh =
         Mesh { points: vec![[0.5, f32::NAN, -1.0]; 9], cells: vec![[5, 6, 7, 8], [0, 1, 2, 3]] };

@@ -3,6 +3,7 @@
 use lifted::lent::Layout;
 use oracle::calls::PlanCall;
 use oracle::expected::components::numbers_of;
+use oracle::expected::faces::{mapped, pairwise};
 use oracle::expected::graded::graded;
 use oracle::expected::grid::Grid;
 use oracle::expected::keep::representatives_of;
@@ -10,7 +11,7 @@ use oracle::expected::mesh::Mesh;
 use oracle::expected::plan::{octree, plan, Plan, OCTANTS};
 use oracle::expected::refine::split_table;
 use oracle::random::Random;
-use oracle::steps::{boxes, crossing, meshes};
+use oracle::steps::{boxes, crossing, faces, meshes};
 
 /// The octants split by answers: roots, then children of split octants.
 fn read(layout: &Layout, crossing: &[u8]) -> Vec<u8> {
@@ -186,6 +187,19 @@ fn groups_end_at_their_highest_cell() {
         let list = representatives_of(mesh, &crossing);
         let asked: Vec<usize> = list.iter().map(|(cell, _)| *cell as usize).collect();
         assert_eq!(asked, highest.collect::<Vec<_>>());
+    }
+}
+
+#[test]
+fn a_map_of_faces_finds_what_pairs_find() {
+    let mut random = Random::new(5);
+    for _ in 0..2_000 {
+        let call = faces::face_components(&mut random);
+        let cells = call.input.mesh().quads();
+        let proper = |cell: &[u32; 4]| (1..4).all(|b| !cell[..b].contains(&cell[b]));
+        if cells.len() < 300 && cells.iter().all(proper) {
+            assert_eq!(mapped(&cells), pairwise(&cells));
+        }
     }
 }
 

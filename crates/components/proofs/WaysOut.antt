@@ -1,12 +1,10 @@
--- The outcomes of the two steps, one law for each way out. Assumes nothing.
+-- The outcomes of the step, one law for each way out. Assumes nothing.
 use mathlib.Core.Path.{_≡_, refl, sym, ap, subst, _∙_}
 use mathlib.Core.Logic.{_≢_}
-use mathlib.Core.Bool.{Bool}
 use mathlib.Core.List.{List, [], _++_}
 use Prim.Native.Nat.{ℕ, _*_, _/_, _≤_, _<_}
 use native.Mathlib.Omega.{arith}
 use borrow.Author.Tests.{lt-ltb, le-ltb}
-use lib.Dec.{eqb}
 use lib.ListN.{length, take, drop, replicate}
 use lib.Seq.{length-take-le}
 use Rattle.lists.proofs.Parts.{sets-whole}
@@ -16,10 +14,9 @@ use Rattle.refusals.specs.declared.Counted.the-variants.{Done, Refused, Short}
 use Rattle.refusals.proofs.Rows.{unless-none, unless-some}
 use Rattle.mesh.specs.Mesh.{pointsOf, cellsOf, Cells}
 use Rattle.mesh.proofs.Unrefused.{Fitting, mesh-fits, points-work}
-use Rattle.components.specs.Numbers.{componentNumbers, componentCount}
+use Rattle.components.specs.Numbers.{componentNumbers}
 use Rattle.components.specs.Parts.{Listed, Fits}
-use Rattle.components.specs.Step.{pieceRows, componentsOf, ComponentsDone, onePieceOf, OnePieceDone}
-use Rattle.components.specs.declared.OnePiece.the-variants as piece
+use Rattle.components.specs.Step.{pieceRows, componentsOf, ComponentsDone}
 use Rattle.components.proofs.Patterns.{length-components}
 
 -- the front of the work table that is lent on
@@ -37,8 +34,6 @@ zeros-lent : (P C w : List ℕ) {w′ : List ℕ} → first (pieceRows P C w) �
     → w′ ≡ replicate (2 * pointsOf P) 0
 zeros-lent P C w z e =
     e ∙ ap (λ (k : ℕ). replicate k 0) (length-take-le (2 * pointsOf P) w (points-work (length P) C (length w) 2 (mesh-fits (length P) C (length w) 0 2 z)))
-
--- ---- components
 
 module _ (P C o w : List ℕ) where
   pub refused : {r : ℕ} → r ≡ first (pieceRows P C w) → r ≢ 0 → ComponentsDone P C o w (Refused r) o w
@@ -62,19 +57,3 @@ module _ (P C o w : List ℕ) where
         let a : componentsOf P C o w ≡ Done r = unless-none _ Refused _ z ∙ rw (le-ltb _ _ h, ← l .count) refl in
         let eo : o′ ≡ componentNumbers C (cellsOf C) = l .numbers ∙ sets-whole _ _ (length-components C (cellsOf C) ∙ sym (length-take-le (cellsOf C) o h)) in
         record { answer = sym a; numbers = rw (a, eo) (sym (as-new [] _ o)); work = rw (a, zeros-lent P C w z ew) (sym (as-new [] _ w)) }
-
--- ---- one piece
-
-module _ (P C w : List ℕ) where
-  pub piece-refused : {r : ℕ} → r ≡ first (pieceRows P C w) → r ≢ 0 → OnePieceDone P C w (piece.Refused r) w
-  unfolding onePieceOf
-  piece-refused {r} e d =
-      let a : onePieceOf P C w ≡ piece.Refused r = rw (← e) (unless-some r piece.Refused _ d) in
-      record { answer = sym a; work = rw a (sym (as-lent r _ w d)) }
-
-  pub piece-told : {b : Bool} {w′ : List ℕ} → first (pieceRows P C w) ≡ 0 → b ≡ eqb (componentCount C (cellsOf C)) 1
-      → w′ ≡ replicate (length (take (2 * pointsOf P) w)) 0 → OnePieceDone P C w (piece.Told b) (w′ ++ drop (2 * pointsOf P) w)
-  unfolding onePieceOf
-  piece-told {b} z eb ew =
-      let a : onePieceOf P C w ≡ piece.Told b = unless-none _ piece.Refused _ z ∙ ap piece.Told (sym eb) in
-      record { answer = sym a; work = rw (a, zeros-lent P C w z ew) (sym (as-new [] _ w)) }

@@ -8,6 +8,7 @@ use sporeferry::CoveredAnswer;
 use sporeferry::PlanAnswer;
 use sporeferry::sf_add_coverage;
 use sporeferry::sf_components;
+use sporeferry::sf_face_components;
 use sporeferry::sf_grid;
 use sporeferry::sf_keep_cover;
 use sporeferry::sf_keep_crust;
@@ -122,7 +123,8 @@ fn answered(
         10 => told(sf_write_vtk(points, cells, small, first)),
         11 => told(sf_read_vtk(crossing, first, second, third)),
         12 => told(sf_marks(c, points, cells, crossing, probe, small, first)),
-        _ => covered(sf_add_coverage(totals_at(tape, n.probe.from), points, cells, crossing)),
+        13 => covered(sf_add_coverage(totals_at(tape, n.probe.from), points, cells, crossing)),
+        _ => told(sf_face_components(points, cells, first, second)),
     }
 }
 

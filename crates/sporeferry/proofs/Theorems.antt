@@ -20,9 +20,11 @@ use Rattle.representatives.proofs.Theorems.{representatives-one}
 use Rattle.marked.specs.declared.Kept.{Kept}
 use Rattle.keep.specs.Step.{KeepDone, coverOf, coverCells, crustOf, crustCells}
 use Rattle.keep.proofs.Theorems.{cover-one, crust-one}
-use Rattle.components.specs.declared.OnePiece.{OnePiece}
-use Rattle.components.specs.Step.{ComponentsDone, OnePieceDone}
-use Rattle.components.proofs.Theorems.{components-one, one-piece-one}
+use Rattle.components.specs.Step.{ComponentsDone}
+use Rattle.components.proofs.Theorems.{components-one}
+use Rattle.pieces.specs.declared.OnePiece.{OnePiece}
+use Rattle.pieces.specs.Step.{FaceComponentsDone, OnePieceDone}
+use Rattle.pieces.proofs.Theorems.{face-components-one, one-piece-one}
 use Rattle.refusals.specs.Rows.{Row}
 use Rattle.file_components.specs.declared.Blocks.{Blocks}
 use Rattle.file_steps.specs.Reader.{Reads}
@@ -155,6 +157,10 @@ module _ (P C : List ℕ) where
   pub sf-components-one : (o w : List ℕ)
       → Determined (λ (z : Answer × List ℕ × List ℕ). Called counted (λ a. ComponentsDone P C o w a (z .1) (z .2)) (z .0))
   sf-components-one o w = called-two (ComponentsDone P C o w) (λ a. tells-one _ _) (components-one P C o w)
+
+  pub sf-face-components-one : (o w : List ℕ)
+      → Determined (λ (z : Answer × List ℕ × List ℕ). Called counted (λ a. FaceComponentsDone P C o w a (z .1) (z .2)) (z .0))
+  sf-face-components-one o w = called-two (FaceComponentsDone P C o w) (λ a. tells-one _ _) (face-components-one P C o w)
 
   pub sf-one-piece-one : (w : List ℕ) → Determined (λ (z : Answer × List ℕ). Called piece (λ a. OnePieceDone P C w a (z .1)) (z .0))
   sf-one-piece-one w = called-one (OnePieceDone P C w) (λ a. tells-one _ _) (one-piece-one P C w)

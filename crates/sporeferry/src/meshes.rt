@@ -1,5 +1,6 @@
 // The steps on meshes.
-ghost use Rattle.components.specs.Step.{ComponentsDone, OnePieceDone};
+ghost use Rattle.components.specs.Step.{ComponentsDone};
+ghost use Rattle.pieces.specs.Step.{FaceComponentsDone, OnePieceDone};
 ghost use Rattle.representatives.specs.Step.{RepresentativesDone};
 ghost use Rattle.keep.specs.Step.{KeepDone, coverOf, coverCells, crustOf, crustCells};
 ghost use Rattle.marks.specs.Step.{MarksDone};
@@ -84,10 +85,22 @@ pub extern "C" fn sf_components(
 }
 
 #[no_mangle]
+pub extern "C" fn sf_face_components(
+    points: &[u32],
+    cells: &[u32],
+    numbers: &mut [u32],
+    work: &mut [u32],
+) -> Answer
+    ensures { λ r. ⌜ Called counted (λ a. FaceComponentsDone (now (points .entry)) (now (cells .entry)) (now (numbers .entry)) (now (work .entry)) a (now (numbers .exit)) (now (work .exit))) r ⌝ }
+{
+    outcomes::of_counted(pieces::face_components(points, cells, numbers, work))
+}
+
+#[no_mangle]
 pub extern "C" fn sf_one_piece(points: &[u32], cells: &[u32], work: &mut [u32]) -> Answer
     ensures { λ r. ⌜ Called piece (λ a. OnePieceDone (now (points .entry)) (now (cells .entry)) (now (work .entry)) a (now (work .exit))) r ⌝ }
 {
-    outcomes::of_one_piece(components::one_piece(points, cells, work))
+    outcomes::of_one_piece(pieces::one_piece(points, cells, work))
 }
 
 #[no_mangle]

@@ -1,12 +1,13 @@
-//! Calls of representatives, keeping, components and one piece.
+//! Calls of representatives, keeping, components by vertices and by faces, and one piece.
 
 use super::{first_difference, shown, Call};
-use crate::expected::components::{components, one_piece};
+use crate::expected::components::components;
+use crate::expected::faces::{face_components, one_piece};
 use crate::expected::keep::{keep, representatives};
 use crate::expected::mesh::Mesh;
 use crate::lent::{Lent, Table};
 use crate::library::{
-    sf_components, sf_keep_cover, sf_keep_crust, sf_one_piece, sf_representatives, Answer,
+    sf_components, sf_face_components, sf_keep_cover, sf_keep_crust, sf_one_piece, sf_representatives, Answer,
 };
 
 /// The two tables of a mesh, handed in.
@@ -236,8 +237,16 @@ impl Call for KeepCall {
     }
 }
 
+/// What joins cells.
+#[derive(Copy, Clone, PartialEq, Eq)]
+pub enum Joined {
+    ByVertices,
+    ByFaces,
+}
+
 #[derive(Clone)]
 pub struct ComponentsCall {
+    pub joined: Joined,
     pub input: Input,
     pub numbers: Lent<u32>,
     pub work: Lent<u32>,
@@ -247,12 +256,19 @@ impl Call for ComponentsCall {
     type Outcome = Answer;
 
     fn step(&self) -> &'static str {
-        "components"
+        match self.joined {
+            Joined::ByVertices => "components",
+            Joined::ByFaces => "face_components",
+        }
     }
 
     fn library(&mut self) -> Answer {
+        let function = match self.joined {
+            Joined::ByVertices => sf_components,
+            Joined::ByFaces => sf_face_components,
+        };
         unsafe {
-            sf_components(
+            function(
                 self.input.points.start().cast(),
                 self.input.points.len(),
                 self.input.cells.start(),
@@ -266,7 +282,11 @@ impl Call for ComponentsCall {
     }
 
     fn expected(&mut self) -> Answer {
-        components(
+        let model = match self.joined {
+            Joined::ByVertices => components,
+            Joined::ByFaces => face_components,
+        };
+        model(
             self.input.mesh(),
             self.numbers.all_mut(),
             self.work.all_mut(),

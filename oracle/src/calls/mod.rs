@@ -7,7 +7,7 @@ mod octrees;
 
 pub use coverage::{CoverageCall, MarksCall};
 pub use files::{Format, ReadCall, WriteCall};
-pub use meshes::{ComponentsCall, Input, KeepCall, OnePieceCall, RepresentativesCall};
+pub use meshes::{ComponentsCall, Input, Joined, KeepCall, OnePieceCall, RepresentativesCall};
 pub use octrees::{GridCall, PlanCall, RefineCall};
 
 use crate::library::{Added, Answer, Planned};

@@ -1,4 +1,4 @@
-//! Component numbers and one piece: the lifted `connected_components`.
+//! Component numbers: the lifted `connected_components`.
 
 use super::mesh::Mesh;
 use crate::library::Answer;
@@ -13,7 +13,8 @@ pub fn numbers_of(mesh: Mesh) -> Vec<u32> {
     mesh.connected_components()
 }
 
-fn count_of(numbers: &[u32]) -> usize {
+/// How many numbers there are.
+pub fn count_of(numbers: &[u32]) -> usize {
     numbers.iter().max().map_or(0, |last| *last as usize + 1)
 }
 
@@ -42,14 +43,4 @@ pub fn components(mesh: Mesh, numbers: &mut [u32], work: &mut [u32]) -> Answer {
     numbers[..found.len()].copy_from_slice(&found);
     work[..2 * mesh.point_count()].fill(0);
     Answer::of(count_of(&found), 0, 0)
-}
-
-/// The step `one_piece`.
-pub fn one_piece(mesh: Mesh, work: &mut [u32]) -> Answer {
-    if let Some(number) = refusal(mesh, work) {
-        return Answer::refused(number);
-    }
-    work[..2 * mesh.point_count()].fill(0);
-    let one = count_of(&numbers_of(mesh)) == 1;
-    Answer::of(usize::from(one), 0, 0)
 }

@@ -5,9 +5,9 @@
 use super::Sizes;
 use crate::expected::mesh::MOST;
 use crate::library::{
-    sf_add_coverage, sf_components, sf_keep_cover, sf_keep_crust, sf_marks, sf_one_piece,
-    sf_read_mesh, sf_read_vtk, sf_representatives, sf_write_mesh, sf_write_vtk, Added, Answer,
-    Totals,
+    sf_add_coverage, sf_components, sf_face_components, sf_keep_cover, sf_keep_crust, sf_marks,
+    sf_one_piece, sf_read_mesh, sf_read_vtk, sf_representatives, sf_write_mesh, sf_write_vtk,
+    Added, Answer, Totals,
 };
 use crate::random::Random;
 use crate::report::Report;
@@ -64,9 +64,12 @@ const LENGTHS: [(usize, usize, u32); 8] = [
 /// A step on a points table and a cells table with every other table empty.
 type OnMesh = fn(*const f32, usize, *const u32, usize) -> Answer;
 
-const ON_MESH: [(&str, OnMesh); 8] = [
+const ON_MESH: [(&str, OnMesh); 9] = [
     ("components", |p, pl, c, cl| unsafe {
         sf_components(p, pl, c, cl, null_mut(), 0, null_mut(), 0)
+    }),
+    ("face_components", |p, pl, c, cl| unsafe {
+        sf_face_components(p, pl, c, cl, null_mut(), 0, null_mut(), 0)
     }),
     ("one_piece", |p, pl, c, cl| unsafe {
         sf_one_piece(p, pl, c, cl, null_mut(), 0)
@@ -161,12 +164,13 @@ fn tables(report: &mut Report) {
     for (step, call) in ON_MESH {
         for (points, cells, number) in LENGTHS {
             // With no points no work is missing there; the cells then name a point that is not.
-            let needs_cells = matches!(
-                step,
-                "representatives" | "keep_cover" | "keep_crust" | "marks"
-            );
+            let by_faces = matches!(step, "face_components" | "one_piece");
+            let by_cells = matches!(step, "representatives" | "keep_cover" | "keep_crust" | "marks");
+            let needs_cells = by_faces || by_cells;
             let wanted = match (points, cells % 4) {
                 (0, 0) if number == 5 && !needs_cells => 8,
+                // Steps by faces ask no work for points.
+                (points, _) if cells == 0 && points % 3 == 0 && number == 5 && by_faces => 0,
                 _ => number,
             };
             let answer = call(pages.start.cast(), points, pages.start.cast(), cells);

@@ -1,10 +1,10 @@
-//! Representatives, keeping, marks, components, one piece: random meshes, then everything that is refused.
+//! Representatives, keeping, marks, components: random meshes, then everything that is refused.
 
 use super::meshes::{answers, any, Sample};
 use super::rooms::{lengths, resized};
 use super::Sizes;
 use crate::calls::{
-    compare, ComponentsCall, Input, KeepCall, MarksCall, OnePieceCall, RepresentativesCall,
+    compare, ComponentsCall, Input, Joined, KeepCall, MarksCall, RepresentativesCall,
 };
 use crate::expected::keep::{kept, representatives_of};
 use crate::lent::Lent;
@@ -136,20 +136,10 @@ pub fn components(random: &mut Random) -> ComponentsCall {
     let (points, cells) = asked.lens();
     let room = lengths(random, [points, cells, cells / 4, 2 * (points / 3)]);
     ComponentsCall {
+        joined: Joined::ByVertices,
         input: asked.input(room[0], room[1]),
         numbers: Lent::new(&random.dirt(room[2])),
         work: Lent::new(&random.dirt(room[3])),
-    }
-}
-
-pub fn one_piece(random: &mut Random) -> OnePieceCall {
-    let mut asked = asked(random);
-    asked.spoil(random);
-    let (points, cells) = asked.lens();
-    let room = lengths(random, [points, cells, 2 * (points / 3)]);
-    OnePieceCall {
-        input: asked.input(room[0], room[1]),
-        work: Lent::new(&random.dirt(room[2])),
     }
 }
 
@@ -180,11 +170,5 @@ pub fn run_marks(random: &mut Random, sizes: &Sizes, report: &mut Report) {
 pub fn run_components(random: &mut Random, sizes: &Sizes, report: &mut Report) {
     for _ in 0..sizes.meshes {
         compare(&components(random), report);
-    }
-}
-
-pub fn run_one_piece(random: &mut Random, sizes: &Sizes, report: &mut Report) {
-    for _ in 0..sizes.meshes {
-        compare(&one_piece(random), report);
     }
 }

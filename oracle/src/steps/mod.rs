@@ -4,6 +4,7 @@ pub mod boxes;
 pub mod coverage;
 mod crossings;
 pub mod damage;
+pub mod faces;
 pub mod files;
 pub mod grid;
 mod huge;
@@ -69,7 +70,7 @@ impl Sizes {
 type Run = fn(&mut Random, &Sizes, &mut Report);
 
 /// Each step's name and its runner.
-const STEPS: [(&str, Run); 13] = [
+const STEPS: [(&str, Run); 14] = [
     ("plan", plan::run),
     ("refine", refine::run),
     ("grid", grid::run),
@@ -79,7 +80,8 @@ const STEPS: [(&str, Run); 13] = [
     ("marks", keep::run_marks),
     ("add_coverage", coverage::run),
     ("components", keep::run_components),
-    ("one_piece", keep::run_one_piece),
+    ("face_components", faces::run_face_components),
+    ("one_piece", faces::run_one_piece),
     ("mesh_file", files::run_mesh),
     ("vtk", files::run_vtk),
     ("huge", huge::run),

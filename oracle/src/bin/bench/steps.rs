@@ -12,14 +12,15 @@ use lifted::transformation::volume_mesh::isosurface_stuffing::doors::{
 use lifted::transformation::volume_mesh::isosurface_stuffing::BackgroundGrid;
 use lifted::transformation::volume_mesh::{MeshEnclosure, VolumeMesh, VolumeMeshParameters};
 use oracle::calls::{
-    Call, ComponentsCall, CoverageCall, Format, GridCall, Input as MeshInput, KeepCall, MarksCall,
-    OnePieceCall, PlanCall, ReadCall, RefineCall, RepresentativesCall, WriteCall,
+    Call, ComponentsCall, CoverageCall, Format, GridCall, Input as MeshInput, Joined, KeepCall,
+    MarksCall, OnePieceCall, PlanCall, ReadCall, RefineCall, RepresentativesCall, WriteCall,
 };
+use oracle::expected::faces::mapped;
 use oracle::expected::plan::{aabb, octree, parameters, planned};
 use oracle::lent::{Entry, Lent};
 use oracle::library::Totals;
 use oracle::random::Random;
-use oracle::steps::boxes;
+use oracle::steps::{boxes, faces};
 use std::hint::black_box;
 use std::rc::Rc;
 
@@ -92,6 +93,45 @@ pub fn contents(table: &mut Table) {
     }
 }
 
+/// A random order of the numbers below n.
+fn order(random: &mut Random, n: usize) -> Vec<u32> {
+    let mut order: Vec<u32> = (0..n as u32).collect();
+    for last in (1..n).rev() {
+        order.swap(last, random.below(last + 1));
+    }
+    order
+}
+
+fn shuffled(cells: &[[u32; 4]], points: usize) -> Vec<[u32; 4]> {
+    let random = &mut Random::new(1);
+    let named = order(random, points);
+    let placed = order(random, cells.len());
+    let cell = |at: &u32| cells[*at as usize].map(|point| named[point as usize]);
+    placed.iter().map(cell).collect()
+}
+
+/// The numbering by faces beside a map with a quick hash.
+fn by_faces(name: &str, points: usize, cells: &[[u32; 4]], table: &mut Table) {
+    let mut call = ComponentsCall {
+        joined: Joined::ByFaces,
+        input: MeshInput::new(&vec![0; 3 * points], cells.as_flattened()),
+        numbers: dirty(cells.len()),
+        work: dirty(16 * cells.len()),
+    };
+    let size = format!("{} cells", thousands(cells.len()));
+    let rust = || timed(|| mapped(cells)).1;
+    table.row("face_components", name, &size, rust, || answered(&mut call));
+}
+
+/// Cells that all have one point, or one edge.
+pub fn stars(table: &mut Table) {
+    for (edge, name) in [(false, "all at one point"), (true, "all at one edge")] {
+        for count in [250_000, 500_000, 1_000_000] {
+            by_faces(name, 2 * count + 9, &faces::star(count, edge), table);
+        }
+    }
+}
+
 /// Every step on one input.
 pub fn on_input(input: &Input, table: &mut Table) {
     let tree = (input.plan.levels > 0).then(|| refine(input, table));
@@ -103,6 +143,7 @@ pub fn on_input(input: &Input, table: &mut Table) {
     mesh.marks(table);
     mesh.coverage(table);
     mesh.components(table);
+    mesh.face_components(table);
     mesh.one_piece(table);
     for format in [Format::Mesh, Format::Vtk] {
         mesh.file(format, table);
@@ -362,6 +403,7 @@ impl<'a> Meshed<'a> {
         let (points, cells) = self.counts();
         let mesh = self.volume_mesh();
         let mut call = ComponentsCall {
+            joined: Joined::ByVertices,
             input: self.input.clone(),
             numbers: dirty(cells),
             work: dirty(2 * points),
@@ -371,13 +413,20 @@ impl<'a> Meshed<'a> {
         table.row("components", self.name, &self.size, rust, ours);
     }
 
+    /// As the grid has its cells, and with points and cells shuffled.
+    fn face_components(&self, table: &mut Table) {
+        by_faces(self.name, self.counts().0, &self.grid.cells, table);
+        let name = format!("{}, shuffled", self.name);
+        let cells = shuffled(&self.grid.cells, self.counts().0);
+        by_faces(&name, self.counts().0, &cells, table);
+    }
+
     fn one_piece(&self, table: &mut Table) {
-        let mesh = self.volume_mesh();
         let mut call = OnePieceCall {
             input: self.input.clone(),
-            work: dirty(2 * self.counts().0),
+            work: dirty(16 * self.counts().1),
         };
-        let rust = || timed(|| mesh.connected_components()).1;
+        let rust = || timed(|| mapped(&self.grid.cells)).1;
         table.row("one_piece", self.name, &self.size, rust, || {
             answered(&mut call)
         });

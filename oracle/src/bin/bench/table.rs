@@ -4,6 +4,8 @@ use crate::clock::least;
 
 pub struct Table {
     times: usize,
+    /// The steps whose rows are wanted, or none for all.
+    steps: Vec<String>,
     rows: Vec<String>,
     copies: Vec<String>,
     contents: Vec<String>,
@@ -23,13 +25,18 @@ fn told(rows: &mut Vec<String>, row: String) {
 }
 
 impl Table {
-    pub fn new(times: usize) -> Self {
+    pub fn new(times: usize, steps: Vec<String>) -> Self {
         Self {
             times,
+            steps,
             rows: Vec::new(),
             copies: Vec::new(),
             contents: Vec::new(),
         }
+    }
+
+    fn wants(&self, step: &str) -> bool {
+        self.steps.is_empty() || self.steps.iter().any(|wanted| wanted == step)
     }
 
     /// Times both sides, turn by turn, so that both meet the same machine; gives our least time.
@@ -41,6 +48,9 @@ impl Table {
         mut rust: impl FnMut() -> f64,
         mut ours: impl FnMut() -> f64,
     ) -> f64 {
+        if !self.wants(step) {
+            return f64::NAN;
+        }
         let mut least_rust = f64::INFINITY;
         let least_ours = least(self.times, || {
             least_rust = least_rust.min(rust());
@@ -58,6 +68,9 @@ impl Table {
 
     /// What a file step takes in copies of the file's bytes.
     pub fn in_copies(&mut self, step: &str, input: &str, file: &FileTimes) {
+        if !self.wants(step) {
+            return;
+        }
         let row = format!(
             "| {step} | {input} | {} | {} | {} | {:.1} |",
             file.bytes,
@@ -70,6 +83,9 @@ impl Table {
 
     /// Ours alone, for what a table may hold.
     pub fn content(&mut self, name: &str, split: &str, ours: impl FnMut() -> f64) {
+        if !self.wants("refine") {
+            return;
+        }
         let row = format!(
             "| {name} | {split} | {} |",
             milliseconds(least(self.times, ours))
@@ -113,7 +129,8 @@ const HOW: &str = "
 - Ours: tables are made and filled before the first call, so their pages are there, and are lent again as the call before left them; nothing is cleared between calls. The steps zero their work themselves, inside the time taken.
 - The Rust: the lifted functions of oracle/lifted (oracle/CHANGES.md), which allocate what they need inside the time taken, as the published code does; their arguments are made before. Its map is the standard one with a hasher that folds products as foldhash does.
 - plan: the first row's Rust is the domain and the lattice alone, as published, which refuse nothing; the second row's is the oracle's model of the whole step, which judges refusals 1 to 4 as ours does. A plan that is refused at once tells what the call through the C boundary takes.
-- refine: the Rust's refinement and `balance`, answers from a table. grid: `background_grid` of the split octree, `uniform_grid` for L 0. representatives: `flood_fill_inside`. keep: `cover_grid` with `compact`. marks: `flood_fill_inside`, and `orient_tet` of each marked cell. add_coverage: a plain loop that judges the tables and adds up. components, one piece: `connected_components`.
+- refine: the Rust's refinement and `balance`, answers from a table. grid: `background_grid` of the split octree, `uniform_grid` for L 0. representatives: `flood_fill_inside`. keep: `cover_grid` with `compact`. marks: `flood_fill_inside`, and `orient_tet` of each marked cell. add_coverage: a plain loop that judges the tables and adds up. components: `connected_components`.
+- The Rust has no numbering by faces. Its column for face_components and one_piece is a map from faces to cells with a quick hash, and parents of cells (`oracle/src/expected/faces.rs`). Shuffled: points renumbered and cells put in any order.
 - The Rust has no file. Its column for write and read is `connected_components` and one copy of the file's bytes, the least that a writer or a reader in Rust must do.
 - A shell is a sphere's surface: crossed octants, or cells with vertices on both of its sides; cells within are inside.
 ";

@@ -9,8 +9,8 @@ use oracle::expected::plan::OCTANTS;
 use oracle::expected::refine::split_table;
 use oracle::random::Random;
 use oracle::steps::{
-    boxes, coverage, crossing, damage, files, grid, keep, meshes, refine, rooms, vtk_headers,
-    worked,
+    boxes, coverage, crossing, damage, faces, files, grid, keep, meshes, refine, rooms,
+    vtk_headers, worked,
 };
 
 /// How many random calls of a step are looked at.
@@ -163,7 +163,8 @@ pub fn all(seed: u64) -> Tape {
     offered(&mut tape, random, |random| keep::keep(random, true));
     offered(&mut tape, random, |random| keep::keep(random, false));
     offered(&mut tape, random, keep::components);
-    offered(&mut tape, random, keep::one_piece);
+    offered(&mut tape, random, faces::face_components);
+    offered(&mut tape, random, faces::one_piece);
     for format in [Format::Mesh, Format::Vtk] {
         writings(&mut tape, random, format);
         readings(&mut tape, random, format);

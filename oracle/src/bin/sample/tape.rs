@@ -5,7 +5,7 @@ use oracle::calls::Outcome;
 use std::collections::BTreeMap;
 
 /// The steps in the order of their numbers on the tape.
-const STEPS: [&str; 14] = [
+const STEPS: [&str; 15] = [
     "plan",
     "refine",
     "grid",
@@ -20,6 +20,7 @@ const STEPS: [&str; 14] = [
     "read_vtk",
     "marks",
     "add_coverage",
+    "face_components",
 ];
 /// The most entries of a table that the program has room for.
 const MOST_ENTRIES: usize = 16_384;

@@ -1,0 +1,6 @@
+-- Laws of faces.
+pub mod Triples
+pub mod Sides
+pub mod Naming
+pub mod Sharing
+pub mod Worked

@@ -1,0 +1,2 @@
+-- Stable passes by buckets.
+pub mod Passes

@@ -1,0 +1,1 @@
+// Stable passes by buckets: definitions and laws, no code.
