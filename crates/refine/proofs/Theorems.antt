@@ -25,8 +25,9 @@ use Rattle.space.specs.Space.{Pos}
 use Rattle.octants.specs.Oct.{Tree, raw}
 use Rattle.octants.specs.Table.{read, table, total}
 use Rattle.octants.proofs.TableLaws.{length-levels}
-use Rattle.octants.specs.Demand.{LeastRefinement}
+use Rattle.octants.specs.Demand.{LeastRefinement, StaysNear, RootsAway}
 use Rattle.octants.proofs.DemandTable.{least-agree, table-least, front-agree}
+use Rattle.octants.proofs.StaysNear.{least-near, near-border}
 use Rattle.octants.specs.Rounds.{Rounds}
 use Rattle.octants.proofs.Rounds.{rounds-refined, rounds-table}
 use Rattle.refine.specs.Step.{crossingRows, refineRows, numberOf, valuesOf, splitOf, refusedWith, answerFor, refinedOf, splitAfter, RefineDone}
@@ -113,6 +114,18 @@ module _ (b : Bounds) (c : Float) (levels : ℕ) (C o : List ℕ) where
       go (planned.Refused why) e =
           let y : refusalNumber why ≡ 0 = rw e at z′ in
           absurd (omega (arith, refusals.refused-some b c levels why e))
+
+  -- the balance stays near: every octant that is split at exit meets a crossed octant of its own level whose ancestors are all crossed; so
+  -- where every crossed root keeps two roots away from the border, no root at the border is split
+  pub refine-near : {r : Refined} {o′ : List ℕ} → RefineDone b c levels C o r o′ → numberOf r ≡ 0
+      → (p : Plan) × (planOf b c levels ≡ planned.Ready p) × StaysNear (p .levels) (dimsOf p) (read (dimsOf p) (p .levels) C) (read (dimsOf p) (p .levels) o′)
+      × (RootsAway 2 (p .levels) (dimsOf p) (read (dimsOf p) (p .levels) C) → RootsAway 1 (p .levels) (dimsOf p) (read (dimsOf p) (p .levels) o′))
+  refine-near {r} {o′} h z =
+      let k = refine-least h z in
+      let l = k .0 .levels in
+      let d = dimsOf (k .0) in
+      let n = least-near l d (read d l C) (read d l o′) (k .2) in
+      (k .0, k .1, n, near-border l d (read d l C) (read d l o′) n)
 
   -- a 4 of refine is the plan's, and names what that names
   pub refine-fault : {r : Refined} {o′ : List ℕ} → RefineDone b c levels C o r o′ → numberOf r ≡ 4
