@@ -1,4 +1,4 @@
--- Laws of floats: the code's tests, a pattern's fields, and what the ceiling means.
+-- Laws of floats: the code's tests, comparing with whole numbers, and what the ceiling means.
 pub mod Floats
-mod Fields
+mod Wholes
 pub mod Theorems

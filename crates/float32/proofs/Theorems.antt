@@ -1,15 +1,17 @@
 -- The ceiling is the least whole number that a float is not above. Assumes nothing.
-use mathlib.Core.Path.{_≡_, refl}
-use mathlib.Core.Bool.{true, false, not}
-use Prim.Native.Nat.{ℕ, suc, _-_, _*_, _≤_, min, zero-le}
-use native.Mathlib.Nat.{le-refl}
+use mathlib.Core.Path.{_≡_, refl, sym, _∙_}
+use mathlib.Core.Bool.{Bool, true, false, not}
+use Prim.Native.Nat.{ℕ, suc, _+_, _*_, _≤_, _<_, min, zero-le}
+use native.Mathlib.Nat.{le-refl, le-trans, le-of-eq, le-antisymm}
+use native.Mathlib.Numerals.{add-one}
 use native.Mathlib.Omega.{arith}
 use borrow.Author.Tests.{leb-true, le-leb}
 use lib.Ieee.{Float, nan, inf, fin, up, down}
 use lib.Ieee.Fits.{down-pos}
 use Rattle.float32.specs.Ceiling.{notAbove, upDiv, ceilTo}
+use Rattle.float32.specs.Parts.{Tried}
 use Rattle.float32.proofs.Floats.{apart}
-use Rattle.float32.proofs.Fields.{up-least, up-covers}
+use Rattle.float32.proofs.Wholes.{up-least, up-covers}
 
 -- ---- what `ceilTo` says: where it is at most `most` x is not above it, and no number up to `most` that x is not above is less
 
@@ -51,3 +53,23 @@ module _ (most : ℕ) where
     where
       go : (u : ℕ) → min u (suc most) ≤ suc most
       go u = omega arith
+
+  -- the first n that x is not above, or most + 1 where there is none
+  pub first-is : (x : Float) (n : ℕ) → Tried (most + 1) x n → (n ≤ most → notAbove x n ≡ true) → n ≡ ceilTo most x
+  first-is x n t here = le-antisymm (reached (ceilTo most x) (λ g l. t .before (ceilTo most x) g (ceil-covers x l))) (least (notAbove x n) refl)
+    where
+      reached : (c : ℕ) → (c < n → c ≤ most → ⊥) → n ≤ c
+      reached c f = lt-or (λ (g : c < n). f g (short c (t .within) g))
+        where
+          short : (c : ℕ) → n ≤ most + 1 → c < n → c ≤ most
+          short c h g = omega arith
+
+          lt-or : (c < n → ⊥) → n ≤ c
+          lt-or f = omega arith
+
+      least : (b : Bool) → notAbove x n ≡ b → ceilTo most x ≤ n
+      least true e = ceil-least x n (le-trans (t .within) (le-of-eq (add-one most))) e
+      least false e = le-trans (ceil-most x) (past (λ (g : n ≤ most). apart (sym e ∙ here g)))
+        where
+          past : (n ≤ most → ⊥) → suc most ≤ n
+          past f = omega arith

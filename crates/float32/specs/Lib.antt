@@ -1,3 +1,4 @@
--- Floats of 32 bits: operations by name, and the ceiling by its meaning.
+-- Floats of 32 bits: operations by name, the ceiling by its meaning, and what its parts ask and give.
 pub mod Operations
 pub mod Ceiling
+pub mod Parts

@@ -5,6 +5,7 @@ ghost use lib.Ieee.{binary32, toBits, ofBits};
 ghost use lib.Ieee.Scale.{finite};
 ghost use lib.Ieee.Positive.{positive};
 ghost use Rattle.float32.specs.Ceiling.{ceilTo};
+ghost use Rattle.float32.specs.Parts.{Tried};
 
 // The float of any pattern; every NaN pattern gives the NaN.
 pub fn to_f32(bits: u32) -> f32
@@ -38,35 +39,33 @@ pub fn is_size(x: f32) -> bool
     0.0 < x && is_finite(x)
 }
 
-// The least whole number that x is not above, or most + 1 where it is above most; 0 of a NaN, as the Rust's cast has it. It picks x's bit pattern apart: where the sign is clear and
-// the exponent's field is from 127 to 149, x is digits / 2 ^ shift.
+// Where the counting begins: at x's whole part, or at the bound where x is above it. x is above every whole number before.
+fn start(x: f32, most: u32) -> u32
+    requires { ⌜ most < 8388608 ⌝ }
+    ensures { λ r. ⌜ Tried most x r ⌝ }
+{
+    if x > most as f32 {
+        return most;
+    }
+    if x > 0.0 {
+        return std::num::truncating_f32_to_u64(x) as u32;
+    }
+    0
+}
+
+// The least whole number that x is not above, or most + 1 where it is above most; 0 of a NaN, as the Rust's cast has it. Counted upwards, as
+// on paper: x is compared with one whole number after the other.
 pub fn ceiling(x: f32, most: u32) -> u32
     requires { ⌜ most < 8388608 ⌝ }
     ensures { λ r. ⌜ r ≡ ceilTo most x ⌝ }
 {
-    if x != x {
-        return 0;
-    }
-    let bits = f32::to_bits(x);
-    if bits >= 0x8000_0000 {
-        return 0;
-    }
-    let exponent = bits >> 23;
-    if exponent >= 150 {
-        return most + 1;
-    }
-    if bits == 0 {
-        return 0;
-    }
-    if exponent < 127 {
-        return 1;
-    }
-    let shift = 150 - exponent;
-    let unit = 1u32 << shift;
-    let digits = 0x80_0000 + bits % 0x80_0000;
-    let n = (digits + (unit - 1)) >> shift;
-    if n > most {
-        return most + 1;
+    let mut n = start(x, most);
+    while n <= most {
+        if x > n as f32 {
+            n += 1;
+        } else {
+            return n;
+        }
     }
     n
 }

@@ -1,103 +1,73 @@
 use borrow.Author.Needs.{needs}
-use mathlib.Core.Path.{sym, ap, _∙_, subst}
-use lib.Dec.{T}
-use lib.Ieee.{binary32, fits}
-use lib.Ieee.Compare.{differs-from-itself}
-use Rattle.float32.specs.Ceiling.{ceilTo}
-use Rattle.float32.proofs.Floats.{no-nan}
-use Rattle.float32.proofs.Fields.{at-nan, negative, nothing, beyond, within-one, unit-pos, sum-fits, over, under}
+use Prim.Native.Nat.{ℕ, _+_, _-_, _^_, _≤_}
+use native.Mathlib.Omega.{arith}
+use borrow.Author.Count.{below-more}
+use lib.Dec.{le→leb}
+use lib.Ieee.{inFloat}
+use Rattle.float32.specs.Parts.{Tried}
+use Rattle.float32.proofs.Wholes.{stays, exceeds}
+use Rattle.float32.proofs.Theorems.{first-is}
 use Rattle.float32.proofs.ceiling.Statement.{statement}
 use Rattle.float32.proofs.ceiling.Tie as tie
 use Rattle.float32.proofs.ceiling.Reads as reads
 use Rattle.float32.proofs.ceiling.Lts as lts
+use Rattle.float32.proofs.start.Reads as start-reads
 
--- what owning an `f32` tells: the format holds it
-held : (c : tie.Start) → T (fits binary32 (c .args .x))
-held c = subst T (sym (c .good .0 .1)) tt
+abbrev Inv-loop : tie.InvT-loop
+Inv-loop x most n₀ n = Tried (most + 1) x n
 
-returns : tie.Need-returns
+abbrev μ-loop : tie.MeasureT-loop
+μ-loop x most n₀ n = most + 1 - n
+
+small : (c : tie.In-loop Inv-loop μ-loop) → c .before .loop .n ≤ 2 ^ 24
+small c = omega arith
+
+start-requires : tie.Need-start-requires Inv-loop μ-loop
+start-requires c κs = search needs
+
+loop-holds : tie.Need-loop-holds Inv-loop μ-loop
+loop-holds c = record { within = go (c .start .result) (c .start .ensures .within); before = c .start .ensures .before }
+  where
+    go : (n : ℕ) → n ≤ c .before .args .most → n ≤ c .before .args .most + 1
+    go n h = omega arith
+
+int-to-float-if1 : tie.Need-int-to-float-if1 Inv-loop μ-loop
+unfolding inFloat
+int-to-float-if1 c = le→leb (c .before .before .loop .n) (2 ^ 24) (small (c .before))
+
+add-n : tie.Need-add-n Inv-loop μ-loop
+add-n c = omega arith
+
+loop-less : tie.Need-loop-less Inv-loop μ-loop
+loop-less c = omega arith
+
+loop-again : tie.Need-loop-again Inv-loop μ-loop
+loop-again c =
+    let l = c .before .before .before in
+    record { within = omega arith; before = below-more _ _ (l .loop .inv .before) (exceeds (l .loop .n) (l .before .before .args .x) (small (c .before .before)) (c .if1 .taken)) }
+
+returns : tie.Need-returns Inv-loop μ-loop
 returns c =
-    let a = c .before .args in
-    at-nan (a .most) ∙ ap (ceilTo (a .most)) (sym (differs-from-itself (a .x) (subst T (sym (c .if1 .taken)) tt)))
+    let l = c .before .before .before in
+    let a = l .before .before .args in
+    first-is (a .most) (a .x) (l .loop .n) (l .loop .inv) (λ g. stays (l .loop .n) (a .x) (small (c .before .before)) (c .if1 .left))
 
-float-to-bits-bits : tie.Need-float-to-bits-bits
-float-to-bits-bits c = no-nan (c .before .args .x) (c .if1 .left)
-
-returns-2 : tie.Need-returns-2
+returns-2 : tie.Need-returns-2 Inv-loop μ-loop
 returns-2 c =
-    let s = c .before .before in
-    negative (s .args .most) (s .args .x) (held s) (c .if2 .taken) (no-nan (s .args .x) (c .before .if1 .left))
-
-add-result : tie.Need-add-result
-add-result c = search needs
-
-returns-3 : tie.Need-returns-3
-returns-3 c =
-    let s = c .before .before .before in
-    beyond (s .args .most) (s .args .x) (held s) (c .before .if2 .left) (no-nan (s .args .x) (c .before .before .if1 .left)) (s .pre) (c .if3 .taken)
-
-returns-4 : tie.Need-returns-4
-returns-4 c =
-    let s = c .before .before .before .before in
-    nothing (s .args .most) (s .args .x) (held s) (c .if4 .taken)
-
-returns-5 : tie.Need-returns-5
-returns-5 c =
-    let s = c .before .before .before .before .before in
-    within-one (s .args .most) (s .args .x) (held s) (c .before .before .before .if2 .left) (c .before .if4 .left) (c .if5 .taken)
-
-sub-shift : tie.Need-sub-shift
-sub-shift c = search needs
-
-shl-unit : tie.Need-shl-unit
-shl-unit c = search needs
-
-add-digits : tie.Need-add-digits
-add-digits c = search needs
-
-sub-n : tie.Need-sub-n
-sub-n c =
-    let s = c .before .before .before .before .before in
-    unit-pos (s .args .most) (s .args .x) (held s) (c .before .before .before .if2 .left) (c .if5 .left) (c .before .before .if3 .left)
-
-add-n : tie.Need-add-n
-add-n c =
-    let s = c .before .before .before .before .before in
-    record { fits = sum-fits (s .args .most) (s .args .x) (held s) (c .before .before .before .if2 .left) (c .if5 .left) (c .before .before .if3 .left) }
-
-shr-n : tie.Need-shr-n
-shr-n c = search needs
-
-add-result-2 : tie.Need-add-result-2
-add-result-2 c = search needs
-
-returns-6 : tie.Need-returns-6
-returns-6 c =
-    let s = c .before .before .before .before .before .before in
-    over (s .args .most) (s .args .x) (held s) (c .before .before .before .before .if2 .left) (c .before .if5 .left) (c .before .before .before .if3 .left) (c .if6 .taken)
-
-returns-7 : tie.Need-returns-7
-returns-7 c =
-    let s = c .before .before .before .before .before .before in
-    under (s .args .most) (s .args .x) (held s) (c .before .before .before .before .if2 .left) (c .before .if5 .left) (c .before .before .before .if3 .left) (c .if6 .left)
+    let a = c .before .before .before .args in
+    first-is (a .most) (a .x) (c .before .loop .n) (c .before .loop .inv) (λ g. absurd (omega arith))
 
 pub ceiling-spec : {M : Type 1} → statement M
 ceiling-spec =
     tie.close
     (tie.spec
-    returns
-    float-to-bits-bits
-    returns-2
-    add-result
-    returns-3
-    returns-4
-    returns-5
-    sub-shift
-    shl-unit
-    add-digits
-    sub-n
+    Inv-loop
+    μ-loop
+    start-requires
+    loop-holds
+    int-to-float-if1
     add-n
-    shr-n
-    add-result-2
-    returns-6
-    returns-7)
+    loop-less
+    loop-again
+    returns
+    returns-2)
