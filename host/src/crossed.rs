@@ -1,11 +1,10 @@
 //! Which octants and which cells the surface crosses: the answers that the scanner's host owes the library.
 
 use crate::answers::{answers, filled};
-use crate::crossing::Cell;
 use crate::grid::Grid;
+use crate::patch::{Asked, Patch};
 use crate::plan::Plan;
-use crate::surface::{Around, Surface};
-use crate::vector::wide;
+use crate::surface::Surface;
 
 /// Questions a thread takes at a time.
 const CHUNK: usize = 2048;
@@ -36,22 +35,18 @@ impl Crossed {
         Crossed { octants, asked, finest: waiting }
     }
 
-    /// The crossing table of the grid's cells. A cell lies in the boxes two units wide that it reaches into, so only
-    /// the triangles that meet one of these are held against it.
+    /// The crossing table of the grid's cells. Crossed octants are split, so a cell meets the surface only in boxes two
+    /// units wide whose middle is a corner of it.
     pub fn cells(&self, surface: &Surface, plan: &Plan, grid: &Grid) -> Vec<u8> {
-        let boxes = Boxes::new(surface, plan, &self.finest);
+        let patches = Patches::new(surface, plan, &self.finest);
+        let around = patches.around_each(&grid.triples);
         answers("cells", grid.cells.len(), CHUNK, |n| {
-            let [a, b, c, d] = grid.cells[n].map(|point| point as usize);
-            let triples = [grid.triples[a], grid.triples[b], grid.triples[c], grid.triples[d]];
-            let mut ready = None;
-            boxes.any_reached(triples, |number| {
-                let (around, cell) = ready.get_or_insert_with(|| {
-                    let points = [grid.points[a], grid.points[b], grid.points[c], grid.points[d]];
-                    let [a, b, c, d] = points;
-                    (Around::points(&points), Cell::new([wide(a), wide(b), wide(c), wide(d)]))
-                });
-                surface.around(number).meets(around) && cell.meets(&surface.triangle(number))
-            })
+            let corners = grid.cells[n].map(|point| point as usize);
+            let near = corners.map(|point| around[point]);
+            near != [0; 4] && {
+                let cell = Asked::new(corners.map(|point| grid.points[point]));
+                near.iter().any(|number| patches.all[*number as usize].meets(surface, &cell))
+            }
         })
     }
 }
@@ -88,55 +83,44 @@ fn children(octant: [u32; 3]) -> impl Iterator<Item = [u32; 3]> {
 }
 
 /// The triangles that meet each box two units wide.
-struct Boxes {
+struct Patches {
     counts: [usize; 3],
-    /// For each box the number of its list; 0 is the empty one.
-    lists_of: Vec<u32>,
-    lists: Vec<Vec<u32>>,
+    /// For each box the number of its patch; 0 is the empty one.
+    numbers: Vec<u32>,
+    all: Vec<Patch>,
 }
 
-impl Boxes {
+impl Patches {
     fn new(surface: &Surface, plan: &Plan, asked: &[[u32; 3]]) -> Self {
-        let found = filled("octants", asked.len(), CHUNK, |first, part: &mut [Vec<u32>]| {
-            for (list, octant) in part.iter_mut().zip(&asked[first..]) {
+        let found = filled("octants", asked.len(), CHUNK, |first, part: &mut [Patch]| {
+            for (patch, octant) in part.iter_mut().zip(&asked[first..]) {
                 let [low, high] = corners(plan, 0, *octant);
-                *list = surface.within_box(low, high);
+                *patch = Patch::within(surface, low, high);
             }
         });
         let counts = plan.far().map(|far| far.div_ceil(2) as usize);
-        let mut lists_of = vec![0; counts.iter().product()];
-        let mut lists = vec![Vec::new()];
-        for (octant, list) in asked.iter().zip(found).filter(|(_, list)| !list.is_empty()) {
-            lists_of[place(counts, octant.map(|n| n as usize))] = lists.len() as u32;
-            lists.push(list);
+        let mut numbers = vec![0; counts.iter().product()];
+        let mut all = vec![Patch::default()];
+        for (octant, patch) in asked.iter().zip(found).filter(|(_, patch)| !patch.is_empty()) {
+            numbers[place(counts, *octant)] = all.len() as u32;
+            all.push(patch);
         }
-        Boxes { counts, lists_of, lists }
+        Patches { counts, numbers, all }
     }
 
-    /// Whether a triangle passes the test that meets a box into which a cell with these corners reaches.
-    fn any_reached(&self, corners: [[u32; 3]; 4], mut test: impl FnMut(usize) -> bool) -> bool {
-        let [a, b, c, d] = corners;
-        let along = |axis: usize| {
-            let low = a[axis].min(b[axis]).min(c[axis]).min(d[axis]);
-            let high = a[axis].max(b[axis]).max(c[axis]).max(d[axis]);
-            low as usize / 2..high.div_ceil(2) as usize
+    /// For each vertex the number of the patch in the box around it. Middles of these boxes are odd along every axis; all
+    /// other vertices have none.
+    fn around_each(&self, triples: &[[u32; 3]]) -> Vec<u32> {
+        let number = |triple: &[u32; 3]| match triple.iter().all(|x| x % 2 == 1) {
+            true => self.numbers[place(self.counts, triple.map(|x| x / 2))],
+            false => 0,
         };
-        let (x, y, z) = (along(0), along(1), along(2));
-        for k in z {
-            for j in y.clone() {
-                for i in x.clone() {
-                    let list = self.lists_of[place(self.counts, [i, j, k])];
-                    if self.lists[list as usize].iter().any(|number| test(*number as usize)) {
-                        return true;
-                    }
-                }
-            }
-        }
-        false
+        triples.iter().map(number).collect()
     }
 }
 
 /// Where a box stands among so many along each axis.
-fn place([nx, ny, _]: [usize; 3], [i, j, k]: [usize; 3]) -> usize {
+fn place([nx, ny, _]: [usize; 3], octant: [u32; 3]) -> usize {
+    let [i, j, k] = octant.map(|n| n as usize);
     i + (j + k * ny) * nx
 }

@@ -14,6 +14,9 @@ const ROUNDING: f64 = 8.0 * f64::EPSILON;
 /// The same for a point that has been cut out of an edge four times.
 const CUT_ROUNDING: f64 = 32.0 * f64::EPSILON;
 
+/// How far a slab stands off its triangles, as a part of the size of what is added up.
+const STANDING_OFF: f64 = 1e-10;
+
 /// Whether a triangle meets the box from `low` to `high`.
 pub fn meets_box(triangle: &Triangle, low: Point, high: Point) -> bool {
     let holds = |point: &Point| (0..3).all(|k| low[k] <= point[k] && point[k] <= high[k]);
@@ -93,28 +96,33 @@ impl Cell {
             return self.meets_flat(&seen);
         }
         let reach = largest_coordinate(&seen).max(self.reach);
-        let mut behind_all = [true; 3];
-        for face in &self.faces {
+        let (mut behind_all, mut cuts) = ([true; 3], [false; 4]);
+        for (face, cuts) in self.faces.iter().zip(&mut cuts) {
             let slack = face.slack(reach);
-            let mut none = true;
-            for (all, corner) in behind_all.iter_mut().zip(&seen) {
-                let behind = face.depth(*corner) + slack >= 0.0;
-                *all &= behind;
-                none &= !behind;
+            let [a, b, c] = seen;
+            let behind = [a, b, c].map(|corner| face.depth(corner) + slack >= 0.0);
+            if behind == [false; 3] {
+                return false;
             }
-            if none {
+            *cuts = behind != [true; 3];
+            for (all, behind) in behind_all.iter_mut().zip(behind) {
+                *all &= behind;
+            }
+        }
+        behind_all != [false; 3] || self.something_left(seen, cuts, reach)
+    }
+
+    /// Whether something of a triangle is left when what is beyond the faces that cut it is cut off.
+    fn something_left(&self, seen: Triangle, cuts: [bool; 4], reach: f64) -> bool {
+        let (mut left, mut before) = (&mut Polygon::new(seen), &mut Polygon::new(seen));
+        for (face, _) in self.faces.iter().zip(cuts).filter(|(_, cuts)| *cuts) {
+            std::mem::swap(&mut left, &mut before);
+            before.cut(face, face.slack(reach), left);
+            if left.count == 0 {
                 return false;
             }
         }
-        behind_all != [false; 3] || self.something_left(seen, reach)
-    }
-
-    fn something_left(&self, seen: Triangle, reach: f64) -> bool {
-        let mut left = Polygon::new(seen);
-        self.faces.iter().all(|face| {
-            left = left.cut(face, face.slack(reach));
-            left.count > 0
-        })
+        true
     }
 
     /// The same by shadows, for a cell whose faces have no sure direction.
@@ -162,9 +170,9 @@ impl Polygon {
         Polygon { corners, count: 3 }
     }
 
-    /// Without what is beyond the face's plane, moved outwards by the slack.
-    fn cut(&self, face: &Face, slack: f64) -> Self {
-        let mut left = Polygon { corners: [[0.0; 3]; MOST_CORNERS], count: 0 };
+    /// What is left without what is beyond the face's plane, moved outwards by the slack.
+    fn cut(&self, face: &Face, slack: f64, left: &mut Polygon) {
+        left.count = 0;
         let own = &self.corners[..self.count];
         let mut before = own[own.len() - 1];
         let mut depth = face.depth(before) + slack;
@@ -179,7 +187,6 @@ impl Polygon {
             }
             (before, depth) = (*point, next);
         }
-        left
     }
 
     /// A convex polygon has one corner more after a cut, at most. Where rounding gives another one, it is let go:
@@ -189,6 +196,40 @@ impl Polygon {
             self.corners[self.count] = corner;
             self.count += 1;
         }
+    }
+}
+
+/// Two planes with triangles between them, and the direction across. They stand off so far that what is beside them counts as
+/// apart from each of the triangles in every test here.
+#[derive(Clone, Copy, Debug, Default)]
+pub struct Slab {
+    across: Point,
+    low: f64,
+    high: f64,
+}
+
+impl Slab {
+    /// The slab across the sum of the triangles' normals: thin if they are nearly in one plane. What is held against it is not
+    /// much farther from the origin than they and the two points.
+    pub fn around(triangles: impl Iterator<Item = Triangle> + Clone, near: [Point; 2]) -> Self {
+        let across = triangles.clone().fold([0.0; 3], |sum: Point, [a, b, c]| {
+            let normal = cross(sub(b, a), sub(c, a));
+            std::array::from_fn(|axis| sum[axis] + normal[axis])
+        });
+        let (mut low, mut high) = (f64::INFINITY, f64::NEG_INFINITY);
+        let mut most = farthest(across, &near);
+        for triangle in triangles {
+            let (least, greatest) = shadow(across, &triangle);
+            (low, high) = (low.min(least), high.max(greatest));
+            most = most.max(farthest(across, &triangle));
+        }
+        Slab { across, low: low - STANDING_OFF * most, high: high + STANDING_OFF * most }
+    }
+
+    /// Whether all corners of a body are on one side of it.
+    pub fn is_beside(&self, corners: &[Point]) -> bool {
+        let (low, high) = shadow(self.across, corners);
+        low > self.high || high < self.low
     }
 }
 
@@ -364,6 +405,32 @@ mod tests {
             met += usize::from(cell.meets(&triangle));
         }
         assert!((4_000..16_000).contains(&met), "{met}");
+    }
+
+    /// Triangles near one plane: what is beside their slab meets none, and most of what meets none is beside it.
+    #[test]
+    fn what_is_beside_a_slab_meets_none_of_its_triangles() {
+        let mut random = crate::testing::Random::new(10);
+        let (mut beside, mut apart) = (0, 0);
+        for _ in 0..5_000 {
+            let corner = |random: &mut crate::testing::Random| {
+                let [x, y, z] = random.point(0.0, 1.0);
+                [x, y, 0.3 * x + 0.5 * y + 0.01 * z]
+            };
+            let patch: [Triangle; 4] =
+                std::array::from_fn(|_| std::array::from_fn(|_| corner(&mut random)));
+            let slab = Slab::around(patch.iter().copied(), [LOW, HIGH]);
+            let cell: [Point; 4] = std::array::from_fn(|_| random.point(-0.2, 1.2));
+            let met = patch.iter().any(|triangle| meets_tetrahedron(triangle, &cell));
+            assert!(!(met && slab.is_beside(&cell)));
+            beside += usize::from(slab.is_beside(&cell));
+            apart += usize::from(!met);
+        }
+        assert!(beside > 500 && beside < apart, "{beside} of {apart}");
+        let slab = Slab::around([flat(1.0)].into_iter(), [LOW, HIGH]);
+        let touching = [[1.0, 0.0, 0.0], [2.0, 0.0, 0.0], [2.0, 1.0, 0.0], [2.0, 0.0, 1.0]];
+        assert!(!slab.is_beside(&touching));
+        assert!(slab.is_beside(&touching.map(|[x, y, z]| [x + HAIR, y, z])));
     }
 
     /// Random bodies against a search for a common point: whenever one is found the test must agree.

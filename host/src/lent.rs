@@ -119,6 +119,24 @@ pub(crate) fn end_by_signal(number: i32) {
     }
 }
 
+/// Mixes the blocks into a checksum's state by the processor's own instructions; whether it has them.
+#[cfg(target_arch = "x86_64")]
+pub(crate) fn mixed_by_processor(state: &mut [u32; 8], blocks: &[u8]) -> bool {
+    let has = is_x86_feature_detected!("sha")
+        && is_x86_feature_detected!("ssse3")
+        && is_x86_feature_detected!("sse4.1");
+    if has {
+        // Safety: the function asks for these instructions alone.
+        unsafe { crate::sha256::x86::mix(state, blocks) };
+    }
+    has
+}
+
+#[cfg(not(target_arch = "x86_64"))]
+pub(crate) fn mixed_by_processor(_state: &mut [u32; 8], _blocks: &[u8]) -> bool {
+    false
+}
+
 /// Calls a function of the header: numbers first, then the tables it reads, then those it writes, each as its pointer
 /// and its length.
 macro_rules! call {

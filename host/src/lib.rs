@@ -36,6 +36,7 @@ pub mod kinds;
 pub mod lent;
 mod mesh;
 pub mod part;
+mod patch;
 mod plan;
 pub mod progress;
 pub mod quality;

@@ -1,5 +1,7 @@
 //! SHA-256 (FIPS 180-4), to name a file by what it holds.
 
+use crate::lent::mixed_by_processor;
+
 /// The roots of the first eight primes, and the cube roots of the first 64: the first 32 bits of their fractions.
 #[rustfmt::skip]
 const START: [u32; 8] = [
@@ -27,13 +29,19 @@ const BLOCK: usize = 64;
 /// assert_eq!(checksum(b"abc"), of_abc);
 /// ```
 pub fn checksum(bytes: &[u8]) -> String {
+    mixed(bytes, |state, blocks| {
+        if !mixed_by_processor(state, blocks) {
+            mix_each(state, blocks);
+        }
+    })
+}
+
+/// The checksum by one way or another to mix whole blocks into the state.
+fn mixed(bytes: &[u8], mix: impl Fn(&mut [u32; 8], &[u8])) -> String {
+    let (blocks, rest) = bytes.split_at(bytes.len() - bytes.len() % BLOCK);
     let mut state = START;
-    let blocks = bytes.chunks_exact(BLOCK);
-    let rest = blocks.remainder();
-    blocks.for_each(|block| mix(&mut state, block));
-    for block in ending(rest, bytes.len()).chunks_exact(BLOCK) {
-        mix(&mut state, block);
-    }
+    mix(&mut state, blocks);
+    mix(&mut state, &ending(rest, bytes.len()));
     state.iter().map(|word| format!("{word:08x}")).collect()
 }
 
@@ -44,6 +52,10 @@ fn ending(rest: &[u8], length: usize) -> Vec<u8> {
     last.resize((rest.len() + 9).next_multiple_of(BLOCK) - 8, 0);
     last.extend((8 * length as u64).to_be_bytes());
     last
+}
+
+fn mix_each(state: &mut [u32; 8], blocks: &[u8]) {
+    blocks.chunks_exact(BLOCK).for_each(|block| mix(state, block));
 }
 
 fn mix(state: &mut [u32; 8], block: &[u8]) {
@@ -78,21 +90,86 @@ fn schedule(block: &[u8]) -> [u32; 64] {
     words
 }
 
+/// `mix_each` by the processor's own instructions.
+#[cfg(target_arch = "x86_64")]
+pub(crate) mod x86 {
+    use super::{BLOCK, ROUNDS};
+    use std::arch::x86_64::*;
+
+    #[target_feature(enable = "sha,ssse3,sse4.1")]
+    pub fn mix(state: &mut [u32; 8], blocks: &[u8]) {
+        let [a, b, c, d, e, f, g, h] = state.map(u32::cast_signed);
+        let mut abef = _mm_set_epi32(a, b, e, f);
+        let mut cdgh = _mm_set_epi32(c, d, g, h);
+        for block in blocks.chunks_exact(BLOCK) {
+            let before = (abef, cdgh);
+            let (mut w0, mut w1) = (four(block, 0), four(block, 16));
+            let (mut w2, mut w3) = (four(block, 32), four(block, 48));
+            for rounds in ROUNDS.chunks_exact(4) {
+                let added = _mm_add_epi32(w0, words(rounds[0], rounds[1], rounds[2], rounds[3]));
+                cdgh = _mm_sha256rnds2_epu32(cdgh, abef, added);
+                abef = _mm_sha256rnds2_epu32(abef, cdgh, _mm_shuffle_epi32::<0b1110>(added));
+                let far = _mm_sha256msg1_epu32(w0, w1);
+                let next = _mm_add_epi32(far, _mm_alignr_epi8::<4>(w3, w2));
+                (w0, w1, w2, w3) = (w1, w2, w3, _mm_sha256msg2_epu32(next, w3));
+            }
+            (abef, cdgh) = (_mm_add_epi32(abef, before.0), _mm_add_epi32(cdgh, before.1));
+        }
+        let [b3, b2, b1, b0] = lanes(abef);
+        let [d3, d2, d1, d0] = lanes(cdgh);
+        *state = [b0, b1, d0, d1, b2, b3, d2, d3];
+    }
+
+    /// Four words of a block, from a byte on.
+    #[inline]
+    #[target_feature(enable = "sse2")]
+    fn four(block: &[u8], at: usize) -> __m128i {
+        let b = &block[at..at + 16];
+        words(
+            u32::from_be_bytes([b[0], b[1], b[2], b[3]]),
+            u32::from_be_bytes([b[4], b[5], b[6], b[7]]),
+            u32::from_be_bytes([b[8], b[9], b[10], b[11]]),
+            u32::from_be_bytes([b[12], b[13], b[14], b[15]]),
+        )
+    }
+
+    /// Four words, the first in the lowest lane.
+    #[inline]
+    #[target_feature(enable = "sse2")]
+    fn words(a: u32, b: u32, c: u32, d: u32) -> __m128i {
+        _mm_set_epi32(d.cast_signed(), c.cast_signed(), b.cast_signed(), a.cast_signed())
+    }
+
+    #[target_feature(enable = "sse4.1")]
+    fn lanes(of: __m128i) -> [u32; 4] {
+        [
+            _mm_extract_epi32::<0>(of),
+            _mm_extract_epi32::<1>(of),
+            _mm_extract_epi32::<2>(of),
+            _mm_extract_epi32::<3>(of),
+        ]
+        .map(i32::cast_unsigned)
+    }
+}
+
 #[cfg(test)]
 mod tests {
     use super::*;
 
-    /// FIPS 180-4's own examples, and lengths around a block's end against `sha256sum`.
+    /// FIPS 180-4's own examples, and lengths around a block's end against `sha256sum`; with the processor's
+    /// instructions, if it has them, and without.
     #[test]
     fn known_checksums() {
-        let empty = "e3b0c44298fc1c149afbf4c8996fb92427ae41e4649b934ca495991b7852b855";
-        assert_eq!(checksum(b""), empty);
-        let long = "248d6a61d20638b8e5c026930c3e6039a33ce45964ff2167f6ecedd419db06c1";
-        assert_eq!(checksum(b"abcdbcdecdefdefgefghfghighijhijkijkljklmklmnlmnomnopnopq"), long);
-        let million = "cdc76e5c9914fb9281a1c7e284d73e67f1809a48a497200e046d39ccc7112cd0";
-        assert_eq!(checksum(&vec![b'a'; 1_000_000]), million);
-        for (length, sum) in LENGTHS {
-            assert_eq!(checksum(&vec![b'x'; length]), sum, "{length}");
+        for sum_of in [checksum, |bytes: &[u8]| mixed(bytes, mix_each)] {
+            let empty = "e3b0c44298fc1c149afbf4c8996fb92427ae41e4649b934ca495991b7852b855";
+            assert_eq!(sum_of(b""), empty);
+            let long = "248d6a61d20638b8e5c026930c3e6039a33ce45964ff2167f6ecedd419db06c1";
+            assert_eq!(sum_of(b"abcdbcdecdefdefgefghfghighijhijkijkljklmklmnlmnomnopnopq"), long);
+            let million = "cdc76e5c9914fb9281a1c7e284d73e67f1809a48a497200e046d39ccc7112cd0";
+            assert_eq!(sum_of(&vec![b'a'; 1_000_000]), million);
+            for (length, sum) in LENGTHS {
+                assert_eq!(sum_of(&vec![b'x'; length]), sum, "{length}");
+            }
         }
     }
 

@@ -5,12 +5,12 @@
 //! only, and the volume inside is the sum over these sheets of their cones from any one point. That holds for shells
 //! turned either way, within one another or doubled, as long as no triangle meets another across.
 
-use crate::answers::{answers, filled, ones};
+use crate::answers::filled;
 use crate::corners::Corners;
 use crate::crossing::meets_triangle;
 use crate::edges::Edges;
 use crate::ray::pierced;
-use crate::surface::{Around, Surface};
+use crate::surface::{Around, Leaf, Surface};
 use crate::vector::{cone, cross, length, middle, sub, wide, Point, Triangle};
 
 /// What a closed surface consists of.
@@ -41,8 +41,8 @@ pub enum Kind {
     Mixed,
 }
 
-/// Triangles a thread takes at a time.
-const CHUNK: usize = 1024;
+/// Leaves a thread takes at a time.
+const CHUNK: usize = 256;
 /// How much smaller triangles are made when they are looked at for meeting.
 const SHRINKING: f64 = 1e-4;
 
@@ -172,19 +172,28 @@ fn shrunk(triangle: &Triangle) -> Triangle {
     std::array::from_fn(|k| [inwards(k, 0), inwards(k, 1), inwards(k, 2)])
 }
 
-/// The triangles that meet one of a higher number with which they share no corner.
+/// The triangles that meet one of a higher number with which they share no corner: where the first stands, and how many.
 fn meeting(surface: &Surface, corners: &Corners) -> Option<(Point, usize)> {
-    let count = surface.facets().len();
-    let table = answers("overlaps", count, CHUNK, |own| {
-        let triangle = shrunk(&surface.triangle(own));
-        surface.any_near(Around::outwards(&triangle), |other| {
-            other > own
-                && !corners.of[other].iter().any(|corner| corners.of[own].contains(corner))
-                && meets_triangle(&triangle, &shrunk(&surface.triangle(other)))
-        })
+    let leaves = surface.leaves();
+    let found = filled("overlaps", leaves.len(), CHUNK, |first, part: &mut [Vec<usize>]| {
+        for (found, leaf) in part.iter_mut().zip(&leaves[first..]) {
+            let own = surface.triangles(*leaf);
+            *found = own.filter(|own| meets_later(surface, corners, *leaf, *own)).collect();
+        }
     });
-    let first = table.iter().position(|answer| *answer == 1)?;
-    Some((middle(&surface.triangle(first)), ones(&table)))
+    let first = *found.iter().flatten().next()?;
+    Some((middle(&surface.triangle(first)), found.iter().map(Vec::len).sum()))
+}
+
+fn meets_later(surface: &Surface, corners: &Corners, leaf: Leaf, own: usize) -> bool {
+    let triangle = shrunk(&surface.triangle(own));
+    let around = Around::outwards(&triangle);
+    let met = |other: usize| {
+        surface.around(other).meets(&around)
+            && !corners.of[other].iter().any(|corner| corners.of[own].contains(corner))
+            && meets_triangle(&triangle, &shrunk(&surface.triangle(other)))
+    };
+    (own + 1..surface.triangles(leaf).end).any(met) || surface.any_after(leaf, around, met)
 }
 
 #[cfg(test)]
@@ -243,9 +252,11 @@ mod tests {
     }
 
     #[test]
-    fn triangles_without_area_are_no_shells() {
+    fn triangles_without_area_are_no_shells_and_meet_only_what_they_touch() {
         let mut facets = tetrahedron([0.0; 3], 1.0);
+        facets.extend([[0.0; 3], [1.0, 0.0, 0.0], [0.0, 1.0, 0.0]].map(|corner| [corner; 3]));
         facets.push([[0.0; 3], [1.0, 0.0, 0.0], [1.0, 0.0, 0.0]]);
-        assert_eq!(shells(facets).kinds, [Kind::Outward]);
+        let shells = shells(facets);
+        assert_eq!((shells.kinds, shells.meeting), (vec![Kind::Outward], None));
     }
 }

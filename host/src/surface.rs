@@ -5,6 +5,7 @@ use crate::crossing::meets_box;
 use crate::ray::pierced;
 use crate::stl::Facet;
 use crate::vector::{box_of, wide, Point, Triangle};
+use std::ops::Range;
 use std::thread;
 
 /// Triangles to a leaf of the tree.
@@ -17,6 +18,10 @@ pub struct Surface {
     facets: Vec<Facet>,
     nodes: Vec<Node>,
 }
+
+/// A leaf of the tree: its node.
+#[derive(Clone, Copy)]
+pub struct Leaf(u32);
 
 struct Node {
     around: Around,
@@ -91,9 +96,29 @@ impl Surface {
         });
     }
 
+    /// The leaves of the tree, in the order of their triangles.
+    pub fn leaves(&self) -> Vec<Leaf> {
+        let nodes = self.nodes.iter().enumerate().filter(|(_, node)| node.count > 0);
+        nodes.map(|(node, _)| Leaf(node as u32)).collect()
+    }
+
+    /// A leaf's triangles.
+    pub fn triangles(&self, leaf: Leaf) -> Range<usize> {
+        let Node { first, count, .. } = self.nodes[leaf.0 as usize];
+        first as usize..(first + count) as usize
+    }
+
     /// Whether some triangle in a leaf that meets the box passes the test.
-    pub fn any_near(&self, around: Around, mut test: impl FnMut(usize) -> bool) -> bool {
-        let mut at = 0;
+    pub fn any_near(&self, around: Around, test: impl FnMut(usize) -> bool) -> bool {
+        self.any_from(0, around, test)
+    }
+
+    /// The same of the triangles after those of a leaf.
+    pub fn any_after(&self, leaf: Leaf, around: Around, test: impl FnMut(usize) -> bool) -> bool {
+        self.any_from(leaf.0 as usize + 1, around, test)
+    }
+
+    fn any_from(&self, mut at: usize, around: Around, mut test: impl FnMut(usize) -> bool) -> bool {
         while let Some(node) = self.nodes.get(at) {
             if !node.around.meets(&around) {
                 at += node.size as usize;
@@ -210,6 +235,28 @@ mod tests {
             crossed += usize::from(!met.is_empty());
         }
         assert!((200..1_800).contains(&crossed));
+    }
+
+    #[test]
+    fn after_a_leaf_come_the_triangles_of_higher_numbers() {
+        let mut random = Random::new(5);
+        let surface = Surface::new((0..500).map(|_| near(&mut random)).collect());
+        let mut next = 0;
+        for leaf in surface.leaves() {
+            let own = surface.triangles(leaf);
+            assert_eq!(own.start, next);
+            next = own.end;
+            let around = Around::points(&near::<9>(&mut random));
+            let mut found = Vec::new();
+            surface.any_after(leaf, around, |number| {
+                found.push(number);
+                false
+            });
+            let meets = |number: &usize| surface.around(*number).meets(&around);
+            found.retain(meets);
+            assert_eq!(found, (next..500).filter(meets).collect::<Vec<_>>());
+        }
+        assert_eq!(next, 500);
     }
 
     /// Solids of any orientation, one in the other, beside and across: a ray counts what the solid angles sum to.
