@@ -22,6 +22,8 @@
 //! # Ok::<(), sporeferry::Refusal>(())
 //! ```
 
+#![deny(unsafe_code)]
+
 pub mod advice;
 mod answers;
 mod corners;
@@ -33,6 +35,7 @@ mod grid;
 mod joined;
 pub mod json;
 pub mod kinds;
+#[allow(unsafe_code)]
 pub mod lent;
 mod mesh;
 pub mod part;

@@ -1,5 +1,7 @@
 //! The command-line tool. It reads parts and mesh files, and says in one sentence why it cannot.
 
+#![forbid(unsafe_code)]
+
 mod arguments;
 mod commands;
 mod evidence;

@@ -50,7 +50,7 @@ impl Stage {
         let (done, ended, end) = (AtomicUsize::new(0), Mutex::new(false), Condvar::new());
         let shared = Arc::new(Shared { label, total, done, ended, end });
         let watched = Arc::clone(&shared);
-        let watch = || thread::Builder::new().spawn(move || watched.watch()).ok();
+        let watch = || thread::Builder::new().spawn(move || watched.watch_on_stderr()).ok();
         let watcher = if SILENT.load(Relaxed) { None } else { watch() };
         Stage { shared, watcher }
     }
@@ -63,10 +63,7 @@ impl Stage {
 
 impl Drop for Stage {
     fn drop(&mut self) {
-        if let Ok(mut ended) = self.shared.ended.lock() {
-            *ended = true;
-        }
-        self.shared.end.notify_all();
+        self.shared.end_it();
         if let Some(watcher) = self.watcher.take() {
             let _ = watcher.join();
         }
@@ -74,19 +71,32 @@ impl Drop for Stage {
 }
 
 impl Shared {
-    fn watch(&self) {
-        let terminal = stderr().is_terminal();
-        if self.ends_within(if terminal { SHORT } else { SHORT_ELSEWHERE }) {
+    fn watch_on_stderr(&self) {
+        match stderr().is_terminal() {
+            true => self.watch(true, SHORT, &mut stderr()),
+            false => self.watch(false, SHORT_ELSEWHERE, &mut stderr()),
+        }
+    }
+
+    fn watch(&self, terminal: bool, short: Duration, out: &mut impl Write) {
+        if self.ends_within(short) {
             return;
         }
         if !terminal {
-            let _ = writeln!(stderr(), "sporeferry: {} ...", self.label);
+            let _ = writeln!(out, "sporeferry: {} ...", self.label);
             return;
         }
         while !self.ends_within(BETWEEN) {
-            let _ = write!(stderr(), "\r\x1b[K{}", self.line());
+            let _ = write!(out, "\r\x1b[K{}", self.line());
         }
-        let _ = write!(stderr(), "\r\x1b[K");
+        let _ = write!(out, "\r\x1b[K");
+    }
+
+    fn end_it(&self) {
+        if let Ok(mut ended) = self.ended.lock() {
+            *ended = true;
+        }
+        self.end.notify_all();
     }
 
     fn line(&self) -> String {
@@ -106,5 +116,46 @@ impl Shared {
         };
         let waited = self.end.wait_timeout_while(ended, time, |ended| !*ended);
         waited.map_or(true, |(ended, _)| *ended)
+    }
+}
+
+#[cfg(test)]
+mod tests {
+    use super::*;
+    use std::io;
+
+    /// Takes what is shown, moves the stage on with every line, and ends it when all is done.
+    struct Page<'a>(&'a Stage, String);
+
+    impl Write for Page<'_> {
+        fn write(&mut self, bytes: &[u8]) -> io::Result<usize> {
+            let Page(stage, text) = self;
+            text.push_str(&String::from_utf8_lossy(bytes));
+            if text.ends_with("100 %") {
+                stage.shared.end_it();
+            } else if text.ends_with(" %") {
+                stage.advance(50);
+            }
+            Ok(bytes.len())
+        }
+
+        fn flush(&mut self) -> io::Result<()> {
+            Ok(())
+        }
+    }
+
+    fn shown(stage: &Stage, terminal: bool) -> String {
+        let mut page = Page(stage, String::new());
+        stage.shared.watch(terminal, Duration::ZERO, &mut page);
+        page.1
+    }
+
+    #[test]
+    fn a_stage_is_a_line_that_moves_or_one_line_elsewhere_and_nothing_if_it_is_short() {
+        let stage = Stage::counted("cells", 100);
+        assert_eq!(shown(&stage, false), "sporeferry: cells ...\n");
+        let (start, moving) = ("\r\x1b[Kcells: ", shown(&stage, true));
+        assert_eq!(moving, format!("{start}0 %{start}50 %{start}100 %\r\x1b[K"));
+        assert_eq!((shown(&stage, true), shown(&stage, false)), (String::new(), String::new()));
     }
 }

@@ -73,10 +73,12 @@ impl Source {
             (Some(volume), _) => Ok(volume),
             (None, meeting) => {
                 let ([x, y, z], count) = meeting.unwrap_or_default();
-                let (count, near) = (grouped(count), [x, y, z].map(measure).join(", "));
-                Err(format!(
-                    "not told: shells overlap or touch, at {count} triangles, the first near {near}"
-                ))
+                let near = [x, y, z].map(measure).join(", ");
+                let place = match count {
+                    1 => format!("at a triangle near {near}"),
+                    _ => format!("at {} triangles, the first near {near}", grouped(count)),
+                };
+                Err(format!("not told: shells overlap or touch, {place}"))
             }
         }
     }

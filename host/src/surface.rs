@@ -279,6 +279,19 @@ mod tests {
         assert!(met.iter().filter(|count| **count > 0).count() >= 4, "{met:?}");
     }
 
+    /// What a test of inside costs: not all triangles, however many solids there are.
+    #[test]
+    fn a_ray_looks_at_few_triangles() {
+        let mut random = Random::new(6);
+        let solids = (0..5_000).flat_map(|_| tetrahedron(random.point(0.0, 100.0), 1.0));
+        let surface = Surface::new(solids.collect());
+        let mut looked_at = 0;
+        for _ in 0..200 {
+            surface.near_ray(random.point(0.0, 100.0), 0, |_| looked_at += 1);
+        }
+        assert!((1..200 * 20).contains(&looked_at), "{looked_at} of 200 times 20,000");
+    }
+
     #[test]
     fn a_surface_without_triangles_crosses_nothing() {
         assert!(!Surface::new(vec![]).crosses_box([-1.0; 3], [1.0; 3]));

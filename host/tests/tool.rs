@@ -33,6 +33,8 @@ fn a_part_is_covered_and_looked_at() {
     assert_eq!((told(&out, "reads"), told(&out, "pieces")), ("yes, as a mesh file", "1"));
     assert!(told(&out, "box").starts_with("x -1") && told(&out, "boundary").starts_with("closed"));
     assert!(told(&out, "angles").starts_with("between faces 45.0° to 120.0°"), "{out}");
+    assert!(out.contains("about  60° ") && out.contains("about  90° "), "{out}");
+    assert!(told(&out, "volume").contains(", of a cell "), "{out}");
     assert_eq!(told(&out, "evidence"), "ball.mesh.json agrees, and ball.stl too");
     let out = does(&folder, "cover ball.stl --cell 4 --crust -o ball.mesh");
     assert!(!out.contains("groups") && !out.contains("% more"));
@@ -227,6 +229,8 @@ fn the_evidence_names_its_mesh_and_its_part() {
     let told = Json::parse(&does(&folder, "info ball.mesh --json")).unwrap();
     assert_eq!(told.at(&["cells"]), facts.at(&["mesh", "cells"]));
     assert_eq!(told.at(&["evidence_agrees"]), Some(&Json::Bool(true)));
+    assert_eq!(told.at(&["boundary", "closed"]), Some(&Json::Bool(true)));
+    assert!(told.at(&["quality", "histogram"]).is_some() && told.at(&["pieces"]).is_some());
     assert!(Json::parse(&does(&folder, "advise ball.stl --json")).is_ok());
 
     fs::write(folder.0.join("ball.stl"), b"another").unwrap();
@@ -372,6 +376,16 @@ fn words_are_understood_or_not() {
         "cover a.stl --cell 1 -o -",
     ] {
         fails(&folder, words, 2, "sporeferry --help tells how");
+    }
+    for (words, holds) in [
+        (
+            "cover a.stl --cell 1 -o -",
+            "-o takes the name of a file, not -: a file is written whole",
+        ),
+        ("cover a.stl --cell 1 --levels 6 -o a.mesh", "--levels"),
+        ("cover a.stl --cell four -o a.mesh", "--cell"),
+    ] {
+        fails(&folder, words, 2, holds);
     }
 }
 

@@ -6,7 +6,7 @@ use folder::Folder;
 use sporeferry::whole_file::{write_whole, Place};
 use std::fs::{self, Permissions};
 use std::io;
-use std::os::unix::fs::{symlink, MetadataExt, PermissionsExt};
+use std::os::unix::fs::{chown, symlink, MetadataExt, PermissionsExt};
 use std::path::Path;
 
 fn write(path: &Path, bytes: &[u8], force: bool) -> io::Result<()> {
@@ -50,6 +50,22 @@ fn a_read_only_file_is_replaced_only_by_force_and_keeps_its_mode() {
         assert_eq!(fs::read(&path).unwrap(), b"forced");
         fs::remove_file(&path).unwrap();
     }
+}
+
+/// Only root can give a file away, and so only root has one of another owner to replace.
+#[test]
+fn a_file_of_another_owner_stays_theirs() {
+    let folder = Folder::new("owner");
+    let path = folder.0.join("a.mesh");
+    fs::write(&path, b"old").unwrap();
+    let (owner, group) = match chown(&path, Some(12_345), Some(54_321)) {
+        Ok(()) => (12_345, 54_321),
+        Err(_) => fs::metadata(&path).map(|own| (own.uid(), own.gid())).unwrap(),
+    };
+    write(&path, b"new", false).unwrap();
+    let found = fs::metadata(&path).unwrap();
+    assert_eq!((found.uid(), found.gid()), (owner, group));
+    assert_eq!(fs::read(&path).unwrap(), b"new");
 }
 
 #[test]

@@ -5,6 +5,9 @@
 //! and hashbrown, `bounding_volume` for the one function it takes of the published `Aabb`, and
 //! `lent` for the shape, whose answers come from tables instead.
 
+// The published text stays as it is.
+#![allow(clippy::let_and_return)]
+
 extern crate alloc;
 
 pub mod bounding_volume;

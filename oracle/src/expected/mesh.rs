@@ -32,7 +32,7 @@ impl<'a> Mesh<'a> {
 
     /// Refusal 5 of these two tables.
     pub fn ragged(&self) -> bool {
-        self.points.len() % 3 != 0 || self.cells.len() % 4 != 0
+        !self.points.len().is_multiple_of(3) || !self.cells.len().is_multiple_of(4)
     }
 
     /// Refusal 8.

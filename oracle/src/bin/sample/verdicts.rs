@@ -49,7 +49,7 @@ fn kind(volume: f32) -> usize {
         v if v.is_nan() => 5,
         v if v.is_infinite() => 4,
         v if v.to_bits() == 0 => 6,
-        v if v == 0.0 => 7,
+        0.0 => 7,
         v if v.is_subnormal() => 2,
         v if v.abs() > 1.0e35 => 3,
         v if v < 0.0 => 1,
