@@ -223,14 +223,24 @@ fn the_evidence_names_its_mesh_and_its_part() {
     for path in [&["part", "sha256"][..], &["mesh", "sha256"], &["tool"]] {
         assert!(facts.at(path).and_then(Json::text).is_some(), "{path:?}");
     }
-    let counts =
-        [&["mesh", "cells"][..], &["plan", "dims"], &["options", "cell"], &["part", "shells"]];
+    let counts = [
+        &["mesh", "cells"][..],
+        &["mesh", "pieces"],
+        &["mesh", "pieces_by_vertices"],
+        &["mesh", "coverage", "share"],
+        &["plan", "dims"],
+        &["options", "cell"],
+        &["part", "shells"],
+    ];
     assert!(counts.iter().all(|path| facts.at(path).is_some()), "{evidence}");
     let told = Json::parse(&does(&folder, "info ball.mesh --json")).unwrap();
     assert_eq!(told.at(&["cells"]), facts.at(&["mesh", "cells"]));
     assert_eq!(told.at(&["evidence_agrees"]), Some(&Json::Bool(true)));
     assert_eq!(told.at(&["boundary", "closed"]), Some(&Json::Bool(true)));
-    assert!(told.at(&["quality", "histogram"]).is_some() && told.at(&["pieces"]).is_some());
+    assert!(told.at(&["quality", "histogram"]).is_some());
+    for name in ["pieces", "pieces_by_vertices"] {
+        assert_eq!(told.at(&[name]), facts.at(&["mesh", name]));
+    }
     assert!(Json::parse(&does(&folder, "advise ball.stl --json")).is_ok());
 
     fs::write(folder.0.join("ball.stl"), b"another").unwrap();
