@@ -10,6 +10,7 @@ use sporeferry::cover::{CoverError, Covered, Request};
 use sporeferry::json::Json;
 use sporeferry::kinds::{foreign_vtk, kind_of};
 use sporeferry::lent::Totals;
+use sporeferry::progress::staged;
 use sporeferry::whole_file::{write_whole, Place};
 use sporeferry::{Mesh, Refusal};
 use std::fs;
@@ -22,8 +23,8 @@ pub fn cover(order: &CoverOrder) -> Result<Told, String> {
     let place = place_for(&order.part.file, output, order.force)?;
     let place_beside = place_for(&order.part.file, &beside, order.force)?;
     let source = Source::read(&order.part)?;
-    let covered = covered(order, &source)?;
-    let file = covered.mesh.to_bytes().map_err(about(output))?;
+    let covered = covered(order.request, &source)?;
+    let file = staged("mesh file", || covered.mesh.to_bytes()).map_err(about(output))?;
     let facts = evidence::of_cover(order, &source, &covered, &file);
     let written = format!("{facts}\n");
     write_whole(&[(&place, &file), (&place_beside, written.as_bytes())]).map_err(about(output))?;
@@ -34,21 +35,26 @@ pub fn cover(order: &CoverOrder) -> Result<Told, String> {
     tell_mesh(&mut report, &covered, &source, order.request.crust);
     report.file(output, &file);
     report.line("evidence", beside.display());
-    let warnings = match covered.dropped {
-        0 => vec![],
-        dropped => vec![format!("{} flat cells are left out of the mesh", grouped(dropped))],
-    };
     let text = report.or_json(order.json, &facts);
+    let warnings = warnings_of(covered.dropped);
     Ok(Told { text, warnings, written: Some(output.into()), failure: None })
 }
 
+/// A dropped cell is never passed by in silence.
+fn warnings_of(dropped: u64) -> Vec<String> {
+    match dropped {
+        0 => vec![],
+        _ => vec![format!("{} flat cells are left out of the mesh", grouped(dropped))],
+    }
+}
+
 /// The mesh, or why there is none; with a refusal 4 what would be taken.
-fn covered(order: &CoverOrder, source: &Source) -> Result<Covered, String> {
+fn covered(request: Request, source: &Source) -> Result<Covered, String> {
     let name = &source.file;
-    sporeferry::cover::cover(&source.part, order.request).map_err(|error| match error {
+    sporeferry::cover::cover(&source.part, request).map_err(|error| match error {
         CoverError::Refused(refusal) => about(name)(match refusal.too_large() {
             Some(named) => {
-                let words = instead(source.part.bounds, order.request, named);
+                let words = instead(source.part.bounds, request, named);
                 let list = format!("\"sporeferry advise {}\" lists what fits", name.display());
                 format!("refusal 4 of plan: {words}; {list}")
             }
@@ -127,14 +133,14 @@ pub fn coverage(order: &CoverageOrder) -> Result<Told, String> {
         ("parts", Json::List(rows)),
         ("total", evidence::of_totals(&totals)),
     ]);
-    Ok(Told { text: table.report.or_json(order.json, &facts), ..Told::default() })
+    let text = table.report.or_json(order.json, &facts);
+    Ok(Told { text, warnings: warnings_of(totals.dropped), ..Told::default() })
 }
 
 /// The totals with one part more, and the unit of its grid, which is the same for every part.
 fn covered_after(part: &PartOrder, request: Request) -> Result<(Totals, f32), String> {
-    let source = Source::read(part)?;
-    let covered = sporeferry::cover::cover(&source.part, request);
-    covered.map(|covered| (covered.totals, covered.plan.half())).map_err(about(&source.file))
+    let covered = covered(request, &Source::read(part)?)?;
+    Ok((covered.totals, covered.plan.half()))
 }
 
 /// A row for each part, under a head.
@@ -255,10 +261,10 @@ fn convert(
     read: fn(&[u8]) -> Result<Mesh, String>,
 ) -> Result<Told, String> {
     let (input, output) = (files.input.as_path(), files.output.as_path());
-    let bytes = fs::read(input).map_err(about(input))?;
+    let bytes = staged("reading", || fs::read(input)).map_err(about(input))?;
     let place = place_for(input, output, files.force)?;
-    let mesh = read(&bytes).map_err(about(input))?;
-    let file = write(&mesh).map_err(about(output))?;
+    let mesh = staged("mesh", || read(&bytes)).map_err(about(input))?;
+    let file = staged("converting", || write(&mesh)).map_err(about(output))?;
     write_whole(&[(&place, &file)]).map_err(about(output))?;
 
     let mut report = Report::default();

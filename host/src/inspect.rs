@@ -15,10 +15,10 @@ use std::fs;
 pub fn info(order: &InfoOrder) -> Result<Told, String> {
     let path = order.file.as_path();
     let bytes = staged("reading", || fs::read(path)).map_err(about(path))?;
-    let (kind, mesh) = match is_vtk(&bytes) {
+    let (kind, mesh) = staged("mesh", || match is_vtk(&bytes) {
         true => ("VTK file", read_vtk(&bytes)),
         false => ("mesh file", read_mesh(&bytes)),
-    };
+    });
     let mesh = mesh.map_err(about(path))?;
     let pieces = staged("pieces", || mesh.pieces()).map_err(about(path))?;
     let quality = Quality::new(&mesh);

@@ -8,7 +8,8 @@ use folder::Folder;
 use running::{does, fails, folder_with, run, run_command, told, TOOL};
 use sporeferry::json::Json;
 use sporeferry::{stl, Mesh};
-use std::fs;
+use std::fs::{self, Permissions};
+use std::os::unix::fs::{symlink, PermissionsExt};
 use std::os::unix::process::ExitStatusExt;
 use std::process::Command;
 
@@ -60,6 +61,8 @@ fn coverage_is_told_part_by_part_and_in_all() {
     assert_eq!(told(&table, "a.stl"), told(&table, "b.stl"));
     assert!(told(&table, "total").ends_with('%'), "{table}");
     fails(&folder, "coverage a.stl none.stl --cell 4", 1, "none.stl: ");
+    fails(&folder, "coverage a.stl --cell 1 --levels 5", 1, "no cell of use fits 5 levels");
+    fails(&folder, "coverage --cell 4", 2, "sporeferry --help tells how");
 }
 
 #[test]
@@ -74,8 +77,12 @@ fn a_part_that_cannot_be_covered_leaves_nothing_behind() {
             ("short.stl", &whole[..5000]),
             ("text.stl", text),
             ("old.mesh", b"kept as it was"),
+            ("locked.mesh", b"kept as it was"),
         ],
     );
+    let locked = folder.0.join("locked.mesh");
+    fs::set_permissions(&locked, Permissions::from_mode(0o444)).unwrap();
+    symlink("nowhere", folder.0.join("dangling")).unwrap();
     for (words, holds) in [
         (
             "ball.stl --cell 1e38 -o old.mesh",
@@ -94,10 +101,16 @@ fn a_part_that_cannot_be_covered_leaves_nothing_behind() {
         ("ball.stl --cell 4 -o ./ball.stl", "ball.stl: it is the file to be read"),
         ("ball.stl --cell 4 --force -o ./ball.stl", "ball.stl: it is the file to be read"),
         ("ball.stl --cell 4 -o /proc/new.mesh", "/proc/new.mesh: "),
+        ("ball.stl --cell 4 -o locked.mesh", "may not be written (--force replaces it)"),
+        ("ball.stl --cell 4 -o dangling", "dangling: it is a link to a file that is not there"),
     ] {
         fails(&folder, &format!("cover {words}"), 1, holds);
     }
-    assert_eq!(fs::read(folder.0.join("old.mesh")).unwrap(), b"kept as it was");
+    for name in ["old.mesh", "locked.mesh"] {
+        assert_eq!(fs::read(folder.0.join(name)).unwrap(), b"kept as it was");
+    }
+    does(&folder, "cover ball.stl --cell 4 --force -o locked.mesh");
+    assert_eq!(fs::metadata(&locked).unwrap().permissions().mode() & 0o777, 0o444);
 }
 
 #[test]
@@ -151,6 +164,9 @@ fn a_part_far_from_the_origin_is_told_and_moved() {
     let (code, out, error) = run(&folder, &format!("{words} --allow-dropped"));
     assert!(code == 0 && told(&out, "dropped") != "0", "{out}");
     let dropped = format!("sporeferry: warning: {} flat cells are left", told(&out, "dropped"));
+    assert!(error.starts_with(&dropped), "{error}");
+    let (code, out, error) = run(&folder, "coverage far.stl --cell 2 --levels 2 --allow-dropped");
+    assert!(code == 0 && out.contains("total"), "{out}");
     assert!(error.starts_with(&dropped), "{error}");
     let out = does(&folder, &format!("{words} --move-to-origin"));
     assert_eq!((told(&out, "moved"), told(&out, "pieces")), ("by 10, -4499990, 10", "1"));
