@@ -23,9 +23,12 @@ pub fn run_command(folder: &Folder, command: &mut Command) -> (i32, String, Stri
     (done.status.code().unwrap_or(-1), text(done.stdout), text(done.stderr))
 }
 
-/// Runs the tool in a folder with these words.
+/// Runs the tool in a folder with these words. Lines that only tell of a long stage are left out of its standard error: on a slow machine
+/// every stage is long.
 pub fn run(folder: &Folder, words: &str) -> (i32, String, String) {
-    run_command(folder, Command::new(TOOL).args(words.split_whitespace()))
+    let (code, out, error) = run_command(folder, Command::new(TOOL).args(words.split_whitespace()));
+    let error = error.split_inclusive('\n').filter(|line| !line.ends_with(" ...\n")).collect();
+    (code, out, error)
 }
 
 /// The tool does what it is asked, without complaint; what it prints.
