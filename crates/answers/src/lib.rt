@@ -1,4 +1,6 @@
 // The crossing answers of octants: those count whose ancestors are all crossed.
+#![tactic(auto)]
+
 ghost use Rattle.std.specs.Prelude.{◌≡◌, true, ◌&&◌, ◌+◌, ◌*◌, ◌/◌, ◌≤◌, ◌<◌, eqb, length};
 ghost use Rattle.lists.specs.Tests.{bit};
 ghost use Rattle.lists.specs.Tables.{all_at_most};

@@ -1,4 +1,6 @@
 // The balance by the shell: an octant is split where a split octant of the level below touches it.
+#![tactic(auto)]
+
 ghost use Rattle.std.specs.Prelude.{◌≡◌, true, not, ◌||◌, ◌&&◌, ◌+◌, ◌*◌, ◌-◌, ◌^◌, ◌≤◌, ◌<◌, eqb, length};
 ghost use Rattle.lists.specs.Tests.{any, bit};
 ghost use Rattle.lists.specs.Tables.{all_at_most};

@@ -1,4 +1,6 @@
 // The step `add_coverage`: the six-fold volumes of a grid's cells, kept and in all, added to the totals over many grids.
+#![tactic(auto)]
+
 ghost use Rattle.std.specs.Prelude.{◌≡◌, cond, ◌+◌, ◌≤◌, eqb, pos, nat_abs, ◌-ℤ◌, ◌*ℤ◌};
 ghost use Rattle.tiling.specs.Volume.{edge, cross, dot};
 ghost use Rattle.grid.specs.Whole.{three_at};
@@ -14,7 +16,7 @@ const MOST: u64 = 18_446_744_073_709_551_615;
 
 // Cells, those kept, those dropped, and six times the volume of those kept and of all.
 #[repr(C)]
-#[derive(Drop)]
+#[derive(Clone, Copy)]
 pub struct Totals {
     pub cells: u64,
     pub kept: u64,
@@ -24,28 +26,28 @@ pub struct Totals {
 }
 
 // The outcome: the new totals; refused, with its number and the totals as they were.
-#[derive(Drop)]
+#[derive(Clone, Copy)]
 pub enum Covered {
     Added(Totals),
     Refused(u32, Totals),
 }
 
 // Totals with the cells counted, or that one of them does not fit.
-#[derive(Drop)]
+#[derive(Clone, Copy)]
 enum Counted {
     Fits(Totals),
     Over,
 }
 
 // Two sums, or that one of them does not fit.
-#[derive(Drop)]
+#[derive(Clone, Copy)]
 enum Summed {
     Fits(u64, u64),
     Over,
 }
 
 // A vector by its signed numbers.
-#[derive(Drop)]
+#[derive(Clone, Copy)]
 struct Vector {
     x: i64,
     y: i64,

@@ -1,18 +1,20 @@
 // Text and decimal counts in a file's bytes, read from the front: at the first byte that departs 14, and 11 where no byte is there.
+#![tactic(auto)]
+
 ghost use Rattle.std.specs.Prelude.{◌≡◌, ℕ, ◌+◌, ◌≤◌, ◌<◌, length};
 ghost use Rattle.lists.specs.Runs.{Stored};
 ghost use Rattle.decimal.specs.Text.{text_at};
 ghost use Rattle.decimal.specs.Digits.{digits, number_at, more_at, count_at};
 
 // Where a part of a file ends that is there; or the number of the refusal.
-#[derive(Drop)]
+#[derive(Clone, Copy)]
 pub enum Place {
     At(usize),
     Stopped(u32),
 }
 
 // A count and where it ends; or the number of the refusal.
-#[derive(Drop)]
+#[derive(Clone, Copy)]
 pub enum Counted {
     Read(usize, usize),
     Stopped(u32),

@@ -1,4 +1,6 @@
 // Stores the cells of a leaf at its faces, each as four vertex numbers.
+#![tactic(auto)]
+
 ghost use Rattle.std.specs.Prelude.{◌≡◌, true, ◌+◌, ◌*◌, ◌^◌, ◌≤◌, ◌<◌, length};
 ghost use Rattle.lists.specs.Runs.{Stored, Room};
 ghost use Rattle.vertex_keys.specs.Keys.{most_keys};
@@ -11,7 +13,7 @@ use vertex_keys::{STRIDE_X, STRIDE_Y, find, near};
 
 // A leaf from an axis on, the two others after it: the numbers of its centre and its corners, the key of corner 0, and half its width
 // along each axis. A corner's place has 1 for the high end of the first axis, 2 of the second, 4 of the third.
-#[derive(Drop)]
+#[derive(Clone, Copy)]
 struct Corners {
     centre: u32,
     c0: u32,
@@ -30,7 +32,7 @@ struct Corners {
 
 // A face across the first axis: the numbers of its corners, one after the other around it, the key of p0, and half the leaf's width
 // along each axis.
-#[derive(Drop)]
+#[derive(Clone, Copy)]
 struct Quad {
     p0: u32,
     p1: u32,
@@ -43,7 +45,7 @@ struct Quad {
 }
 
 // An edge a, b of a face, with the key m of its midpoint, between p and q.
-#[derive(Drop)]
+#[derive(Clone, Copy)]
 struct Edge {
     p: u32,
     q: u32,

@@ -1,4 +1,6 @@
 // Where a file has a mesh, and the component numbers of its cells: written behind the cells, and compared with those that a file has.
+#![tactic(auto)]
+
 ghost use Rattle.std.specs.Prelude.{◌≡◌, [], ℕ, ◌+◌, ◌*◌, ◌≤◌, ◌<◌, length, take};
 ghost use Rattle.std.proofs.lemmas.List.Edits.{sets};
 ghost use Rattle.mesh.specs.Mesh.{cells_of, Cells};
@@ -14,7 +16,7 @@ use mesh::Cell;
 
 // Where a file has a mesh: p points, n cells and m component numbers, each kind from a place on. The words have their high byte first where
 // `big` says so, and a cell starts `stride` words behind the one before it.
-#[derive(Drop)]
+#[derive(Clone, Copy)]
 pub struct Blocks {
     pub p: usize,
     pub n: usize,

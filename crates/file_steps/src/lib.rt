@@ -1,4 +1,6 @@
 // What the steps of every file format share: the outcome of a reader, and what it does behind the refusals by the file alone.
+#![tactic(auto)]
+
 ghost use Rattle.std.specs.Prelude.{◌≡◌, [], ◌≤◌};
 ghost use Rattle.refusals.specs.Rows.{first};
 ghost use Rattle.mesh.specs.Mesh.{most};
@@ -9,7 +11,7 @@ ghost use Rattle.file_steps.specs.Parts.{Loadable};
 use file_components::Blocks;
 
 // The outcome of a reader: points and cells read; refused, with its number; no room for so many points and cells.
-#[derive(Drop)]
+#[derive(Clone, Copy)]
 pub enum Loaded {
     Done(u64, u64),
     Refused(u32),

@@ -1,4 +1,6 @@
 // Floats of 32 bits: bit patterns and back, tests, and the ceiling.
+#![tactic(auto)]
+
 ghost use Rattle.std.specs.Prelude.{◌≡◌, ◌<◌, from_bits, to_bits};
 ghost use Rattle.std.specs.Float.{binary32};
 ghost use Rattle.std.specs.Float.Ieee.Scale.{finite};

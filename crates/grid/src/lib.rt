@@ -1,4 +1,6 @@
 // The step grid: from a plan and a split table to cells and vertices.
+#![tactic(auto)]
+
 ghost use Rattle.std.specs.Prelude.{◌≡◌, ◌*◌, ◌<◌, ◌≤◌, [], length};
 ghost use Rattle.refusals.specs.Rows.{first};
 ghost use Rattle.grid.specs.Step.{lacks_cells, lacks_vertices, split_rows, Filled, GridDone};
@@ -14,7 +16,7 @@ use plan::{Bounds, Plan, Planned, Refusal};
 
 // The outcome of `grid`: how many cells and vertices there are; refused, as a plan is; no room or work for so many cells;
 // no room for so many vertices.
-#[derive(Drop)]
+#[derive(Clone, Copy)]
 pub enum Gridded {
     Done(u64, u64),
     Refused(Refusal),

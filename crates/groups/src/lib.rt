@@ -1,5 +1,7 @@
 // The groups of the cells that are not crossed, and the highest cell of each, in one work table: n entries for the points, and behind
 // them one for each cell.
+#![tactic(auto)]
+
 ghost use Rattle.std.specs.Prelude.{◌≡◌, ◌+◌, ◌≤◌, ◌<◌, length, get_or};
 ghost use Rattle.refusals.specs.Rows.{first};
 ghost use Rattle.groups.specs.Judged.{crossed_rows};

@@ -1,4 +1,6 @@
 // The steps `keep_cover` and `keep_crust`: the cells that the surface crosses, with those inside or without them, as a mesh of its own.
+#![tactic(auto)]
+
 ghost use Rattle.std.specs.Prelude.{◌≡◌, ◌≤◌, ◌<◌, length, take};
 ghost use Rattle.lists.specs.Tests.{bit};
 ghost use Rattle.refusals.specs.Rows.{first};

@@ -1,4 +1,6 @@
 // The lattice: how many cells and vertices it has, and their storing, by numbers in closed form.
+#![tactic(auto)]
+
 ghost use Rattle.std.specs.Prelude.{◌≡◌, ◌&&◌, ◌+◌, ◌*◌, ◌<◌, ◌≤◌};
 ghost use Rattle.lists.specs.Runs.{Stored, Room};
 ghost use Rattle.std.proofs.lemmas.List.Edits.{sets};
@@ -9,7 +11,7 @@ ghost use Rattle.lattice.specs.Parts.{Dims, Counted, octa_numbers, OctaFits, row
 
 use plan::Plan;
 
-#[derive(Drop)]
+#[derive(Clone, Copy)]
 pub struct Counts {
     pub cells: usize,
     pub vertices: usize,
@@ -53,7 +55,7 @@ fn both(a: bool, b: bool) -> bool
 
 // An octahedron by numbers: its centre, the opposite one, its low corner, and what a step along the two axes of the face adds to a
 // corner's number.
-#[derive(Drop)]
+#[derive(Clone, Copy)]
 struct Octa {
     centre: u32,
     opposite: u32,
@@ -88,7 +90,7 @@ fn octahedron(cells: &mut [u32], at: usize, row: bool, here: bool, o: Octa) -> u
 
 // A row of n centres, with h low corners that have one further on along x; whether it has octahedra along x, y and z; the numbers of
 // its first centre and of its first low corner; what a step along y and along z adds to a corner's number, and one along z to a centre's.
-#[derive(Drop)]
+#[derive(Clone, Copy)]
 struct Row {
     n: u32,
     h: u32,

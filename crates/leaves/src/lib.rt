@@ -1,4 +1,6 @@
 // Lists the leaves of an octree in the crate's descending order, and counts the cells that they give.
+#![tactic(auto)]
+
 ghost use Rattle.std.specs.Prelude.{◌≡◌, true, [], ◌∷◌, ◌+◌, ◌^◌, ◌≤◌, ◌<◌, length};
 ghost use Rattle.space.specs.Levels.{most_levels};
 ghost use Rattle.octree.specs.Parts.{place_of, tree_of};
@@ -11,7 +13,7 @@ use sides::count_leaf;
 use vertex_keys::KEYS;
 
 // How many leaves were met, and how many cells they give.
-#[derive(Drop)]
+#[derive(Clone, Copy)]
 pub struct Tally {
     pub leaves: usize,
     pub cells: usize,

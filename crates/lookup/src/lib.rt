@@ -1,4 +1,6 @@
 // The leaf that covers an octant, and the vertices that finer leaves put beside one.
+#![tactic(auto)]
+
 ghost use Rattle.std.specs.Prelude.{◌≡◌, ◌+◌, ◌*◌, ◌/◌, ◌≤◌, ◌<◌, length};
 ghost use Rattle.space.specs.Space.{pos};
 ghost use Rattle.space.specs.Levels.{most_levels};
@@ -10,7 +12,7 @@ ghost use Rattle.lookup.specs.Parts.{ancestor_of, descent_of, covered_of};
 use octree::{Octant, Roots, along, is_inside, is_split};
 
 // The leaf that covers an octant; split, so that several leaves cover it; or out of range.
-#[derive(Drop)]
+#[derive(Clone, Copy)]
 pub enum Covered {
     Leaf(Octant),
     Split,

@@ -2,6 +2,8 @@
 // what is printed where nothing differs, but for answers that were changed on purpose. Both are made by `oracle/sample`.
 // A call of this tape is an octree: word 1 of its head is 0 where `covering_leaf` is asked, else 1; from 2 on stand the roots along the axes,
 // at 9 the levels. Its first table is questions of five words, the answer and a level and a place; its first table of bytes is the split one.
+#![tactic(auto)]
+
 ghost use Rattle.std.specs.Prelude.{◌≡◌, true, ◌≤◌, length};
 ghost use Rattle.space.specs.Levels.{most_roots};
 ghost use Rattle.octree.specs.Parts.{Covers};
@@ -100,7 +102,7 @@ fn agrees(tape: &[u32], at: usize, finer: bool, s: &[u8], d: Roots) -> bool {
 }
 
 // How many questions there were, and how many are answered otherwise.
-#[derive(Drop)]
+#[derive(Clone, Copy)]
 struct Tally {
     asked: u64,
     differences: u64,

@@ -1,5 +1,7 @@
 // The marked cells weighed, and those that stay stored with the points they use, numbered by first use. In the work table n entries for
 // the points stand in front, and behind them one for each cell, which is not 0 where the cell is marked.
+#![tactic(auto)]
+
 ghost use Rattle.std.specs.Prelude.{◌≡◌, ◌-◌, ◌<◌, get_or, take, drop, replicate};
 ghost use Rattle.lists.specs.Tests.{bit};
 ghost use Rattle.mesh.specs.Mesh.{in_order, exchanged};
@@ -12,7 +14,7 @@ use volume::Verdict;
 
 // The outcome of keeping: points, cells, and cells dropped; refused, with its number; no room for so many points and cells;
 // nothing kept.
-#[derive(Drop)]
+#[derive(Clone, Copy)]
 pub enum Kept {
     Done(u64, u64, u64),
     Refused(u32),
@@ -21,7 +23,7 @@ pub enum Kept {
 }
 
 // Points used, cells kept and cells dropped so far.
-#[derive(Drop)]
+#[derive(Clone, Copy)]
 struct Counts {
     points: usize,
     cells: usize,

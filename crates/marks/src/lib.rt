@@ -1,4 +1,6 @@
 // The step `marks`: what Cover makes of each cell of a grid, one byte a cell: 0 not marked, 1 kept or exchanged, 2 dropped.
+#![tactic(auto)]
+
 ghost use Rattle.std.specs.Prelude.{◌≡◌, length, drop, replicate};
 ghost use Rattle.sorting.specs.Numbers.{cnt};
 ghost use Rattle.volume.specs.Volume.{verdict_at};
@@ -10,7 +12,7 @@ ghost use Rattle.marks.specs.Parts.{MarkAsked, marks_by, StoreAsked, AllMarked, 
 use volume::Verdict;
 
 // The outcome: cells kept and cells dropped; refused, with its number; no room for so many cells.
-#[derive(Drop)]
+#[derive(Clone, Copy)]
 pub enum Told {
     Done(u64, u64),
     Refused(u32),

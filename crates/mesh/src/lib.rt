@@ -1,4 +1,6 @@
 // A mesh: its counts, its bounds, the refusals of every step that takes one, and its cells by value.
+#![tactic(auto)]
+
 ghost use Rattle.std.specs.Prelude.{◌≡◌, ◌/◌, ◌≤◌, ◌<◌};
 ghost use Rattle.refusals.specs.Rows.{first};
 ghost use Rattle.mesh.specs.Mesh.{most, cells_of, cell_of};
@@ -8,7 +10,7 @@ ghost use Rattle.mesh.specs.Judged.{size_rows, name_rows, mesh_rows};
 pub const MOST: usize = 536_870_912;
 
 // The four points that a cell names, in order.
-#[derive(Drop)]
+#[derive(Clone, Copy)]
 pub struct Cell {
     pub a: usize,
     pub b: usize,

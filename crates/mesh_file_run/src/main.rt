@@ -1,4 +1,6 @@
 // Writes the file of a small mesh, reads it back, and reads what is left of it when it is cut or changed. Prints a line for each.
+#![tactic(auto)]
+
 use file_steps::Loaded;
 use libc::STDOUT_FILENO;
 use refusals::Counted;

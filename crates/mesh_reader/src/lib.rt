@@ -1,4 +1,6 @@
 // The step `read_mesh`: the mesh of a mesh file, on any bytes.
+#![tactic(auto)]
+
 ghost use Rattle.std.specs.Prelude.{◌≡◌};
 ghost use Rattle.refusals.specs.Rows.{first};
 ghost use Rattle.mesh_reader.specs.Step.{section_rows, file_rows, ReadDone};

@@ -1,4 +1,6 @@
 // The step `write_mesh`: the mesh file of points and cells.
+#![tactic(auto)]
+
 ghost use Rattle.std.specs.Prelude.{◌≤◌};
 ghost use Rattle.file_steps.specs.Parts.{Storable, Placed};
 ghost use Rattle.mesh_layout.specs.Layout.{mesh_file};

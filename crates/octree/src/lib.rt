@@ -1,4 +1,6 @@
 // The split table of an octree: where its levels and octants stand, and whether an octant is split.
+#![tactic(auto)]
+
 ghost use Rattle.std.specs.Prelude.{◌≡◌, ◌+◌, ◌*◌, ◌^◌, ◌≤◌, ◌<◌, length};
 ghost use Rattle.space.specs.Space.{pos};
 ghost use Rattle.octants.specs.Oct.{counts, within, hit};
@@ -7,7 +9,7 @@ ghost use Rattle.octants.specs.Table.{at};
 ghost use Rattle.octree.specs.Parts.{roots_of, place_of, counts_of, tree_of, Covers, level_at, below_of};
 
 // The roots along the axes, and how many levels stand below them.
-#[derive(Drop)]
+#[derive(Clone, Copy)]
 pub struct Roots {
     pub nx: usize,
     pub ny: usize,
@@ -16,7 +18,7 @@ pub struct Roots {
 }
 
 // An octant: its level, and its place in units of that level.
-#[derive(Drop)]
+#[derive(Clone, Copy)]
 pub struct Octant {
     pub level: usize,
     pub x: usize,
@@ -25,7 +27,7 @@ pub struct Octant {
 }
 
 // A level of the table: where it begins, and how many octants stand along each axis.
-#[derive(Drop)]
+#[derive(Clone, Copy)]
 pub struct Level {
     pub start: usize,
     pub nx: usize,

@@ -1,1 +1,2 @@
 // Stable passes by buckets: definitions and laws, no code.
+#![tactic(auto)]

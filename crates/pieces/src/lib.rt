@@ -1,4 +1,6 @@
 // The steps `face_components` and `one_piece`: which cells of a mesh hang together through whole faces.
+#![tactic(auto)]
+
 ghost use Rattle.std.specs.Prelude.{◌≡◌, ◌/◌, length};
 ghost use Rattle.pieces.specs.Parts.{NextAsked, NextJoined, LinkAsked, Linked, NumberAsked, Numbered, Fits, Listed};
 ghost use Rattle.pieces.specs.Step.{FaceComponentsDone, OnePieceDone};
@@ -7,7 +9,7 @@ use lists::wide;
 use refusals::Counted;
 
 // The outcome of `one_piece`.
-#[derive(Drop)]
+#[derive(Clone, Copy)]
 pub enum OnePiece {
     Told(bool),
     Refused(u32),

@@ -1,4 +1,6 @@
 // The plan of a grid: from a box, a cell size and a number of levels to an origin, a unit and dimensions.
+#![tactic(auto)]
+
 ghost use Rattle.std.specs.Prelude.{◌≡◌, ◌≤◌, ◌^◌, max};
 ghost use Rattle.space.specs.Space.{pos};
 ghost use Rattle.space.specs.Levels.{most_levels, off};
@@ -8,7 +10,7 @@ ghost use Rattle.plan.specs.Parts.{Small, Few};
 
 // A box: its lower and its upper bounds along x, y and z.
 #[repr(C)]
-#[derive(Drop)]
+#[derive(Clone, Copy)]
 pub struct Bounds {
     pub x0: f32,
     pub y0: f32,
@@ -20,7 +22,7 @@ pub struct Bounds {
 
 // What holds for all three axes: the margin, what an extent is divided by, the unit, the least and the most that a dimension can
 // be, and how many units one of it is wide.
-#[derive(Drop)]
+#[derive(Clone, Copy)]
 pub struct Scale {
     pub margin: f32,
     pub width: f32,
@@ -31,14 +33,14 @@ pub struct Scale {
 }
 
 // One axis: its origin and its dimension, or none.
-#[derive(Drop)]
+#[derive(Clone, Copy)]
 pub enum Stretch {
     Covers(f32, u32),
     TooLong,
 }
 
 // The origin, the unit, how many roots (in a lattice, units) stand along each axis, the levels and the length of an octant table.
-#[derive(Drop)]
+#[derive(Clone, Copy)]
 pub struct Plan {
     pub ox: f32,
     pub oy: f32,
@@ -53,13 +55,13 @@ pub struct Plan {
 
 // Why there is no plan, and why a step that makes one refuses: a number; 4, with the first axis at fault, or 3 where only the octants
 // are too many.
-#[derive(Drop)]
+#[derive(Clone, Copy)]
 pub enum Refusal {
     Number(u32),
     TooLarge(u32),
 }
 
-#[derive(Drop)]
+#[derive(Clone, Copy)]
 pub enum Planned {
     Ready(Plan),
     Refused(Refusal),

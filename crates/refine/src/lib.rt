@@ -1,4 +1,6 @@
 // The step refine: from the crossing answers of octants to the split table.
+#![tactic(auto)]
+
 ghost use Rattle.std.specs.Prelude.{◌≡◌, ◌≤◌, length};
 ghost use Rattle.refusals.specs.Rows.{first};
 ghost use Rattle.space.specs.Levels.{most_octants};
@@ -10,7 +12,7 @@ use octree::Roots;
 use plan::{Bounds, Plan, Planned, Refusal};
 
 // The outcome of `refine`: how many octants are split; refused, as a plan is; no room for so many octants.
-#[derive(Drop)]
+#[derive(Clone, Copy)]
 pub enum Refined {
     Done(u64),
     Refused(Refusal),

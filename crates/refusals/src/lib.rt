@@ -1,7 +1,8 @@
 // Refusals in their order, and the outcome of a step that counts.
+#![tactic(auto)]
 
 // The outcome of a step that counts: so many; refused, with its number; no room for so many.
-#[derive(Drop)]
+#[derive(Clone, Copy)]
 pub enum Counted {
     Done(u64),
     Refused(u32),

@@ -1,5 +1,7 @@
 // Replays a fixed sample of calls whose answers the lifted Rust gave: stdin is the tape (crate `tape`), stdout what is printed where
 // nothing differs. Both are made by `oracle/sample`.
+#![tactic(auto)]
+
 use coverage::Totals;
 use libc::STDIN_FILENO;
 use plan::Bounds;
@@ -156,7 +158,7 @@ fn replay(tape: &[u32], bytes: &[u8], at: usize) -> u64 {
 }
 
 // How many calls of a section differ, and the place after it.
-#[derive(Drop)]
+#[derive(Clone, Copy)]
 struct Tally {
     after: usize,
     differences: u32,

@@ -1,4 +1,6 @@
 // The step `representatives`: the cells whose probe answers decide, each with its centroid.
+#![tactic(auto)]
+
 ghost use Rattle.std.specs.Prelude.{◌≡◌, length, replicate};
 ghost use Rattle.lists.specs.Runs.{those};
 ghost use Rattle.groups.specs.Parts.{Laid, Labelled};

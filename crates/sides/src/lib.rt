@@ -1,5 +1,7 @@
 // Finds in the split table what stands beside a leaf of a graded octree, by local tests: two bytes decide a side, parity the
 // rotation, two octants a midpoint.
+#![tactic(auto)]
+
 ghost use Rattle.std.specs.Prelude.{◌≡◌, ◌^◌, ◌≤◌, ◌<◌, length};
 ghost use Rattle.space.specs.Levels.{most_levels, most_roots, Counts};
 ghost use Rattle.lists.specs.Tests.{bit};
@@ -11,7 +13,7 @@ ghost use Rattle.sides.specs.Parts.{Taken, LeafIn, cells_at, sides_of, axis_of, 
 use octree::{Level, Octant, Roots, along, hits, level_at};
 
 // Whether each edge of a face has a finer vertex at its midpoint.
-#[derive(Drop)]
+#[derive(Clone, Copy)]
 pub struct Edges {
     pub e0: bool,
     pub e1: bool,
@@ -20,7 +22,7 @@ pub struct Edges {
 }
 
 // What stands beside a leaf at one of its faces.
-#[derive(Drop)]
+#[derive(Clone, Copy)]
 pub enum Beside {
     Split,
     // a leaf of equal level on the positive side
@@ -33,7 +35,7 @@ pub enum Beside {
 }
 
 // By axis, the negative side first.
-#[derive(Drop)]
+#[derive(Clone, Copy)]
 pub struct Sides {
     pub x0: Beside,
     pub x1: Beside,
@@ -44,7 +46,7 @@ pub struct Sides {
 }
 
 // What is read around a leaf: its level and the one above. A level without bytes has no octants.
-#[derive(Drop)]
+#[derive(Clone, Copy)]
 struct Around {
     here: Level,
     above: Level,
@@ -52,7 +54,7 @@ struct Around {
 }
 
 // A leaf's place from an axis on: u along it, where its level has n octants, v along the next axis, w along the one after it.
-#[derive(Drop)]
+#[derive(Clone, Copy)]
 struct Spot {
     axis: u32,
     n: usize,

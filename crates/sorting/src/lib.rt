@@ -1,1 +1,2 @@
 // Entries of a list, sorted and each once: definitions and laws, no code.
+#![tactic(auto)]

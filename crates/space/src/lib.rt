@@ -1,1 +1,2 @@
 // Axes, places and frames: definitions and laws only.
+#![tactic(auto)]

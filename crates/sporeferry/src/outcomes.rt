@@ -15,7 +15,7 @@ use refine::Refined;
 use refusals::Counted;
 
 #[repr(C)]
-#[derive(Drop)]
+#[derive(Clone, Copy)]
 pub struct PlanAnswer {
     pub number: u32,
     pub value: u32,
@@ -30,7 +30,7 @@ pub struct PlanAnswer {
 }
 
 #[repr(C)]
-#[derive(Drop)]
+#[derive(Clone, Copy)]
 pub struct Answer {
     pub number: u32,
     pub first: u64,
@@ -39,7 +39,7 @@ pub struct Answer {
 }
 
 #[repr(C)]
-#[derive(Drop)]
+#[derive(Clone, Copy)]
 pub struct CoveredAnswer {
     pub number: u32,
     pub totals: Totals,

@@ -6,6 +6,8 @@
 //   10  the lengths of the tables that the step writes: three of words, one of bytes, one of long words
 //   15  the lengths of its input tables: two of words, two of bytes
 // Bytes stand four to a word, the low byte first, and at least one byte of none behind them.
+#![tactic(auto)]
+
 ghost use Rattle.std.specs.Prelude.{◌≡◌, ◌+◌, ◌*◌, ◌≤◌, min, false, length, get_or, take, drop};
 ghost use Rattle.words.specs.Words.{words_at};
 ghost use Rattle.tape.specs.Call.{LengthsAt, onward_from, SectionAt, InputsAt};
@@ -33,7 +35,7 @@ pub fn unpacked(bytes: &[u8; BYTES]) -> [u32; 65_536]
 }
 
 // The lengths of the tables that a call writes.
-#[derive(Drop)]
+#[derive(Clone, Copy)]
 pub struct Lengths {
     pub first: usize,
     pub second: usize,
@@ -43,14 +45,14 @@ pub struct Lengths {
 }
 
 // A part of the tape: the word where it starts, and how many entries it has.
-#[derive(Drop)]
+#[derive(Clone, Copy)]
 pub struct Part {
     pub from: usize,
     pub count: usize,
 }
 
 // A section: its name, how many calls it has, and where they start.
-#[derive(Drop)]
+#[derive(Clone, Copy)]
 pub struct Section {
     pub name: Part,
     pub calls: u32,
@@ -58,7 +60,7 @@ pub struct Section {
 }
 
 // Where the input tables of a call stand, and the place after them.
-#[derive(Drop)]
+#[derive(Clone, Copy)]
 pub struct Inputs {
     pub points: Part,
     pub cells: Part,

@@ -1,6 +1,8 @@
 // Prints the verdict on each cell of a fixed sample, with the bits of its volume. stdin has the cells, stdout what the lifted Rust gave;
 // both are made by `oracle/sample`. The first word of stdin says how many cells follow; a cell is 13 words: the least volume, and the
 // coordinates of its four points.
+#![tactic(auto)]
+
 use libc::{STDIN_FILENO, STDOUT_FILENO};
 use volume::{Corners, Point, Verdict};
 

@@ -1,4 +1,6 @@
 // The centroid and the volume of a cell, and the verdict on it. Points are bit patterns, three to a point.
+#![tactic(auto)]
+
 ghost use Rattle.std.specs.Prelude.{◌≡◌, ◌<◌};
 ghost use Rattle.std.specs.Float.{binary32};
 ghost use Rattle.std.specs.Float.Ieee.{to_bits};
@@ -9,7 +11,7 @@ ghost use Rattle.volume.specs.Volume.{minus_of, cross_of, dot_of, volume_of, siz
 use float32::to_f32;
 use mesh::Cell;
 
-#[derive(Drop)]
+#[derive(Clone, Copy)]
 pub struct Point {
     pub x: f32,
     pub y: f32,
@@ -17,7 +19,7 @@ pub struct Point {
 }
 
 // The four corners of a cell, in vertex order.
-#[derive(Drop)]
+#[derive(Clone, Copy)]
 pub struct Corners {
     pub a: Point,
     pub b: Point,
@@ -26,7 +28,7 @@ pub struct Corners {
 }
 
 // What becomes of a marked cell; each case carries the volume.
-#[derive(Drop)]
+#[derive(Clone, Copy)]
 pub enum Verdict {
     Kept(f32),
     Exchanged(f32),

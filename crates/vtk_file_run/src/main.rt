@@ -1,4 +1,6 @@
 // Writes the viewer's file of a small mesh, reads it back, and reads what becomes of it when it is cut or changed. Prints how each is taken.
+#![tactic(auto)]
+
 use file_steps::Loaded;
 use libc::STDOUT_FILENO;
 use refusals::Counted;

@@ -1,4 +1,6 @@
 // The layout of the viewer's file: legacy VTK, version 3.0, BINARY, UNSTRUCTURED_GRID. Read from the front, on any bytes.
+#![tactic(auto)]
+
 ghost use Rattle.std.specs.Prelude.{◌≡◌, ◌++◌, ℕ, ◌+◌, ◌*◌, ◌≤◌, ◌<◌, length};
 ghost use Rattle.lists.specs.Runs.{Stored};
 ghost use Rattle.decimal.specs.Digits.{digits};
@@ -28,7 +30,7 @@ pub const SCALAR_LINES: [u8; 46] = *b"\nSCALARS component int 1\nLOOKUP_TABLE de
 pub const FEED: [u8; 1] = *b"\n";
 
 // A file's p points and n cells, and the places of its blocks: points, cells, cell types, component numbers.
-#[derive(Drop)]
+#[derive(Clone, Copy)]
 pub struct Layout {
     pub p: usize,
     pub n: usize,
@@ -39,7 +41,7 @@ pub struct Layout {
 }
 
 // The layout of a file; or the number of the refusal.
-#[derive(Drop)]
+#[derive(Clone, Copy)]
 pub enum Located {
     Found(Layout),
     Stopped(u32),

@@ -1,4 +1,6 @@
 // The step `read_vtk`: the mesh of a viewer's file, on any bytes.
+#![tactic(auto)]
+
 ghost use Rattle.std.specs.Prelude.{◌≡◌, ◌+◌, ◌*◌, ◌≤◌, min, length};
 ghost use Rattle.refusals.specs.Rows.{first};
 ghost use Rattle.vtk_layout.specs.Parts.{Laid};

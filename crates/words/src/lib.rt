@@ -1,4 +1,6 @@
 // Words of four bytes, the low byte first or the high one, in a file's bytes.
+#![tactic(auto)]
+
 ghost use Rattle.std.specs.Prelude.{◌≡◌, false, ℕ, ◌+◌, ◌*◌, ◌≤◌, ◌<◌, length, replicate};
 ghost use Rattle.std.proofs.lemmas.List.Edits.{sets};
 ghost use Rattle.lists.specs.Tables.{all_below, same};
@@ -27,7 +29,7 @@ pub fn word(file: &[u8], at: usize, big: bool) -> u32
 }
 
 // Four words.
-#[derive(Drop)]
+#[derive(Clone, Copy)]
 pub struct Quad {
     pub a: u32,
     pub b: u32,

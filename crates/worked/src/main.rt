@@ -1,5 +1,7 @@
 // Runs worked numbers of section 13 of the rules that are not in the proved table, and prints a line for each: the number of the refusal, for
 // a 4 what it names, and for a plan the x origin and the unit as bit patterns, the dimensions and the octants.
+#![tactic(auto)]
+
 use libc::STDOUT_FILENO;
 use plan::{Bounds, Plan, Planned, Refusal};
 
