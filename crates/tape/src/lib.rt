@@ -13,9 +13,11 @@ ghost use Rattle.words.specs.Words.{words_at};
 ghost use Rattle.tape.specs.Call.{LengthsAt, onward_from, SectionAt, InputsAt};
 
 mod digest;
+mod reading;
 mod telling;
 
 pub use digest::{bytes, longs, number, words};
+pub use reading::read_full;
 pub use telling::tell;
 
 // How many entries a table has at most that is written.

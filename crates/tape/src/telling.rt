@@ -1,20 +1,20 @@
 // What a program says of the calls that it has gone through.
-use libc::STDOUT_FILENO;
+use std::io;
 
-fn text(s: &[u8]) {
-    io::write_all(STDOUT_FILENO, s);
+fn text(rt: &impl Print, s: &[u8]) -> io::Result<()> {
+    rt.write_all(s)
 }
 
-fn count(n: u64) {
-    io::print_decimal(STDOUT_FILENO, n);
+fn count(rt: &impl Print, n: u64) -> io::Result<()> {
+    rt.print(n)
 }
 
 // A line: how many calls there were under a name, and how many of them differ.
-pub fn tell(name: &[u8], calls: u64, differences: u64) {
-    text(name);
-    text(b": ");
-    count(calls);
-    text(b" calls, ");
-    count(differences);
-    text(b" differences\n");
+pub fn tell(rt: &impl Print, name: &[u8], calls: u64, differences: u64) -> io::Result<()> {
+    text(rt, name)?;
+    text(rt, b": ")?;
+    count(rt, calls)?;
+    text(rt, b" calls, ")?;
+    count(rt, differences)?;
+    text(rt, b" differences\n")
 }
