@@ -11,8 +11,5 @@ bounds-file-at c = omega (arith, c.loop-i.invariant.long)
 pub loop-i-preserved : goal.loop-i-preserved
 loop-i-preserved c = putting_on _ _ _ _ _ c.loop-i.invariant c.loop-i-test.true
 
-pub shape_of-file : goal.shape_of-file
-shape_of-file c = c.loop-i.invariant.long
-
 pub returns : goal.returns
 returns c = putting_done _ _ _ _ _ c.loop-i.invariant c.loop-i-test.false

@@ -33,7 +33,7 @@ pub overflow_cast-result : goal.overflow_cast-result
 unfolding of_bits
 overflow_cast-result c =
     let t : Tried c.args.most c.args.x c.truncating_f32_to_u64.result =
-        tried _ c.args.x _ c.truncating_f32_to_u64.ensures c.requires c.if-x.true (stays _ c.args.x (small _ c.requires) c.if-x-most.false) in
+    tried _ c.args.x _ c.truncating_f32_to_u64.ensures c.requires c.if-x.true (stays _ c.args.x (small _ c.requires) c.if-x-most.false) in
     Fits-le (le_trans t.within (le_of_lt c.requires)) (Fits-lit tt)
 
 pub returns-then-x : goal.returns-then-x

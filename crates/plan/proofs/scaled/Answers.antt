@@ -16,4 +16,4 @@ int_to_float-result c = le→leb c.width_of-w.result (2 ^ 24) (omega arith)
 
 pub returns : goal.returns
 unfolding scale_of
-returns c = simp (ne_eqb _ _ c.if-levels-eq0.false, c.width_of-w.ensures.0)
+returns c = simp (ne_eqb _ _ c.if-levels-eq0.false, c.width_of-w.ensures.value)

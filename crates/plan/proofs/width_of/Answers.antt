@@ -10,4 +10,4 @@ pub returns : goal.returns
 returns c =
     let l = c.args.levels in
     let e : 1 * 2 ^ l % 4294967296 ≡ 2 ^ l = shl_exact 1 l 32 (lit< tt) (omega arith) ∙ one-mul (2 ^ l) in
-    (e, subst (λ (n : ℕ). n ≤ 32) (sym e) (pow_mono c.requires))
+    record { value = e; upper_bound = subst (λ (n : ℕ). n ≤ 32) (sym e) (pow_mono c.requires) }

@@ -22,7 +22,10 @@ returns-then-levels-gt-LEVELS c = simp (passed c.is_size.ensures c.if-not-is_siz
 pub over-requires : goal.over-requires
 over-requires c =
     let a = c.args in
-    (subst (λ (s : Scale). Small s) (sym c.scaled.ensures) (scale_small a.c a.levels c.if-levels-gt-LEVELS.false), c.if-levels-gt-LEVELS.false)
+    record {
+      small = subst (λ (s : Scale). Small s) (sym c.scaled.ensures) (scale_small a.c a.levels c.if-levels-gt-LEVELS.false);
+      levels_le_most_levels = c.if-levels-gt-LEVELS.false;
+    }
 
 pub returns : goal.returns
 unfolding plan_of
