@@ -8,9 +8,9 @@ ghost use Rattle.std.specs.Prelude.{◌≡◌, true, ◌≤◌, length};
 ghost use Rattle.space.specs.Levels.{most_roots};
 ghost use Rattle.octree.specs.Parts.{Covers};
 
-use libc::STDIN_FILENO;
 use lookup::{Covered, covering_leaf, has_finer_vertex};
 use octree::{Octant, Roots, level_at};
+use std::io;
 use tape::{BYTES, Inputs, Part, Section};
 
 fn count(tape: &[u32], at: usize, i: usize) -> usize {
@@ -132,7 +132,14 @@ fn ask(tape: &[u32], bytes: &[u8], at: usize) -> Tally
 }
 
 // The octrees of a section; tells of all their questions, and answers the place after them.
-fn ask_section(tape: &[u32], bytes: &[u8], name: Part, start: usize, calls: u32) -> usize {
+fn ask_section(
+    rt: &impl Print,
+    tape: &[u32],
+    bytes: &[u8],
+    name: Part,
+    start: usize,
+    calls: u32,
+) -> io::Result<usize> {
     let mut at = start;
     let mut asked: u64 = 0;
     let mut differences: u64 = 0;
@@ -142,22 +149,23 @@ fn ask_section(tape: &[u32], bytes: &[u8], name: Part, start: usize, calls: u32)
         differences += tally.differences;
         at = Inputs::at(tape, at).after;
     }
-    tape::tell(tape::byte_table(bytes, name), asked, differences);
-    at
+    tape::tell(rt, tape::byte_table(bytes, name), asked, differences)?;
+    Ok(at)
 }
 
 // The sections of a tape, whose first word says how many they are.
-fn ask_all(tape: &[u32], bytes: &[u8]) {
+fn ask_all(rt: &impl Print, tape: &[u32], bytes: &[u8]) -> io::Result<()> {
     let sections = tape::word(tape, 0, 0);
     let mut at: usize = 1;
     for _ in 0..sections {
         let s = Section::at(tape, at);
-        at = ask_section(tape, bytes, s.name, s.start, s.calls);
+        at = ask_section(rt, tape, bytes, s.name, s.start, s.calls)?;
     }
+    Ok(())
 }
 
-fn main() {
+fn main(rt: HostRuntime) -> io::Result<()> {
     let mut bytes = [0u8; BYTES];
-    io::read_full(STDIN_FILENO, &mut bytes);
-    ask_all(&tape::unpacked(&bytes), &bytes);
+    tape::read_full(&mut rt.reader(), &mut bytes)?;
+    ask_all(&rt, &tape::unpacked(&bytes), &bytes)
 }

@@ -3,13 +3,13 @@
 #![tactic(auto)]
 
 use coverage::Totals;
-use libc::STDIN_FILENO;
 use plan::Bounds;
 use sporeferry::{
     Answer, CoveredAnswer, PlanAnswer, sf_add_coverage, sf_components, sf_face_components, sf_grid,
     sf_keep_cover, sf_keep_crust, sf_marks, sf_one_piece, sf_plan, sf_read_mesh, sf_read_vtk,
     sf_refine, sf_representatives, sf_write_mesh, sf_write_vtk,
 };
+use std::io;
 use tape::{BYTES, Inputs, Lengths, ROOM, Section, tell};
 
 fn float(tape: &[u32], at: usize, i: usize) -> f32 {
@@ -180,7 +180,7 @@ fn replay_section(tape: &[u32], bytes: &[u8], start: usize, calls: u32) -> Tally
 }
 
 // Replays the sections of a tape, whose first word says how many they are.
-fn replay_all(tape: &[u32], bytes: &[u8]) {
+fn replay_all(rt: &impl Print, tape: &[u32], bytes: &[u8]) -> io::Result<()> {
     let sections = tape::word(tape, 0, 0);
     let mut at: usize = 1;
     let mut calls: u64 = 0;
@@ -189,19 +189,20 @@ fn replay_all(tape: &[u32], bytes: &[u8]) {
         let section = Section::at(tape, at);
         let tally = replay_section(tape, bytes, section.start, section.calls);
         tell(
+            rt,
             tape::byte_table(bytes, section.name),
             section.calls as u64,
             tally.differences as u64,
-        );
+        )?;
         calls += section.calls as u64;
         differences += tally.differences as u64;
         at = tally.after;
     }
-    tell(b"all", calls, differences);
+    tell(rt, b"all", calls, differences)
 }
 
-fn main() {
+fn main(rt: HostRuntime) -> io::Result<()> {
     let mut bytes = [0u8; BYTES];
-    io::read_full(STDIN_FILENO, &mut bytes);
-    replay_all(&tape::unpacked(&bytes), &bytes);
+    tape::read_full(&mut rt.reader(), &mut bytes)?;
+    replay_all(&rt, &tape::unpacked(&bytes), &bytes)
 }

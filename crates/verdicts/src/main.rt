@@ -3,7 +3,7 @@
 // coordinates of its four points.
 #![tactic(auto)]
 
-use libc::{STDIN_FILENO, STDOUT_FILENO};
+use std::io;
 use volume::{Corners, Point, Verdict};
 
 fn float(tape: &[u32], at: usize, i: usize) -> f32 {
@@ -30,33 +30,34 @@ fn verdict(tape: &[u32], at: usize) -> Verdict {
     volume::verdict_on(corners, float(tape, at, 0))
 }
 
-fn text(s: &[u8]) {
-    io::write_all(STDOUT_FILENO, s);
+fn text(rt: &impl Print, s: &str) -> io::Result<()> {
+    rt.print(s)
 }
 
-fn tell(verdict: Verdict) {
+fn tell(rt: &impl Print, verdict: Verdict) -> io::Result<()> {
     match verdict {
-        Verdict::Kept(_) => text(b"kept "),
-        Verdict::Exchanged(_) => text(b"exchanged "),
-        Verdict::Dropped(_) => text(b"dropped "),
+        Verdict::Kept(_) => text(rt, "kept ")?,
+        Verdict::Exchanged(_) => text(rt, "exchanged ")?,
+        Verdict::Dropped(_) => text(rt, "dropped ")?,
     }
-    io::print_hex(STDOUT_FILENO, volume::volume_bits(verdict) as u64, 8);
-    text(b"\n");
+    let bits = volume::volume_bits(verdict);
+    println!(rt; "{bits:08x}")
 }
 
-fn tell_all(tape: &[u32]) {
+fn tell_all(rt: &impl Print, tape: &[u32]) -> io::Result<()> {
     let cells = tape::word(tape, 0, 0);
     let mut at: usize = 1;
     for _ in 0..cells {
-        tell(verdict(tape, at));
+        tell(rt, verdict(tape, at))?;
         at = tape::onward(tape, at, 13);
     }
+    Ok(())
 }
 
-fn main() {
+fn main(rt: HostRuntime) -> io::Result<()> {
     let mut bytes = [0u8; 16_384];
-    io::read_full(STDIN_FILENO, &mut bytes);
+    tape::read_full(&mut rt.reader(), &mut bytes)?;
     let mut tape = [0u32; 4_096];
     words::get_words(&bytes, 0, false, &mut tape);
-    tell_all(&tape);
+    tell_all(&rt, &tape)
 }

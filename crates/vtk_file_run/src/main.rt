@@ -2,16 +2,15 @@
 #![tactic(auto)]
 
 use file_steps::Loaded;
-use libc::STDOUT_FILENO;
 use refusals::Counted;
+use std::io;
 
-fn print_text(text: &[u8]) {
-    io::write_all(STDOUT_FILENO, text);
+fn print_text(rt: &impl Print, text: &str) -> io::Result<()> {
+    rt.print(text)
 }
 
-fn print_number(n: u64) {
-    print_text(b" ");
-    io::print_decimal(STDOUT_FILENO, n);
+fn print_number(rt: &impl Print, n: u64) -> io::Result<()> {
+    print!(rt; " {n}")
 }
 
 // Writes the file of a mesh; answers its bytes, or 0 where it is refused.
@@ -25,7 +24,7 @@ fn write(points: &[u32], cells: &[u32], file: &mut [u8]) -> u64 {
 }
 
 // Five points, among them a signalling NaN, an infinity and -0; two cells that hang together at point 3. The file has 287 bytes.
-fn write_sample(file: &mut [u8]) {
+fn write_sample(rt: &impl Print, file: &mut [u8]) -> io::Result<()> {
     let points: [u32; 15] = [
         0,
         0,
@@ -44,9 +43,9 @@ fn write_sample(file: &mut [u8]) {
         4,
     ];
     let cells: [u32; 8] = [0, 1, 2, 3, 3, 4, 1, 1];
-    print_text(b"written");
-    print_number(write(&points, &cells, file));
-    print_text(b"\n");
+    print_text(rt, "written")?;
+    print_number(rt, write(&points, &cells, file))?;
+    print_text(rt, "\n")
 }
 
 fn same(a: &[u8], b: &[u8]) -> bool {
@@ -133,66 +132,77 @@ fn respelled(sample: &[u8], at: usize, many: usize, bytes: &[u8]) -> u32 {
     outcome(sample, &file[..end])
 }
 
-fn print_outcome(number: u64) {
+fn print_outcome(rt: &impl Print, number: u64) -> io::Result<()> {
     if number == 0 {
-        print_text(b" the mesh");
-        return;
+        return print_text(rt, " the mesh");
     }
     if number == 1 {
-        print_text(b" another mesh");
-        return;
+        return print_text(rt, " another mesh");
     }
-    print_number(number);
+    print_number(rt, number)
 }
 
-fn print_respelled(title: &[u8], sample: &[u8], at: usize, many: usize, bytes: &[u8]) {
-    print_text(title);
-    print_outcome(respelled(sample, at, many, bytes) as u64);
-    print_text(b"\n");
+fn print_respelled(
+    rt: &impl Print,
+    title: &str,
+    sample: &[u8],
+    at: usize,
+    many: usize,
+    bytes: &[u8],
+) -> io::Result<()> {
+    print_text(rt, title)?;
+    print_outcome(rt, respelled(sample, at, many, bytes) as u64)?;
+    print_text(rt, "\n")
 }
 
 fn tally(counts: &mut [u64; 16], number: u32) {
     if number < 16 {
         let i = number as usize;
-        counts[i] = std::num::wrapping_add_u64(counts[i], 1);
+        counts[i] = counts[i].wrapping_add(1);
     }
 }
 
 // How often each outcome was.
-fn print_counts(title: &[u8], counts: &[u64; 16]) {
-    print_text(title);
+fn print_counts(rt: &impl Print, title: &str, counts: &[u64; 16]) -> io::Result<()> {
+    print_text(rt, title)?;
     let mut i: usize = 0;
     while i < 16 {
         if counts[i] != 0 {
-            print_outcome(i as u64);
-            print_text(b":");
-            print_number(counts[i]);
+            print_outcome(rt, i as u64)?;
+            print_text(rt, ":")?;
+            print_number(rt, counts[i])?;
         }
         i += 1;
     }
-    print_text(b"\n");
+    print_text(rt, "\n")
 }
 
 // Every part of the sample from the front, the whole left out.
-fn parts(sample: &[u8]) {
+fn parts(rt: &impl Print, sample: &[u8]) -> io::Result<()> {
     let mut counts = [0u64; 16];
     let mut n: usize = 0;
     while n < sample.len() {
         tally(&mut counts, outcome(sample, &sample[..n]));
         n += 1;
     }
-    print_counts(b"each part from the front:", &counts);
+    print_counts(rt, "each part from the front:", &counts)
 }
 
 // At every place some bytes left out, and others put in.
-fn respellings(title: &[u8], sample: &[u8], many: usize, bytes: &[u8]) {
+fn respellings(
+    rt: &impl Print,
+    title: &str,
+    sample: &[u8],
+    many: usize,
+    bytes: &[u8],
+) -> io::Result<()> {
     let mut counts = [0u64; 16];
     let mut at: usize = 0;
     while at < sample.len() {
         tally(&mut counts, respelled(sample, at, many, bytes));
         at += 1;
     }
-    print_counts(title, &counts);
+    print_counts(rt, title, &counts)
 }
 
 // A byte that many further on.
@@ -201,7 +211,7 @@ fn shifted(x: u8, by: u8) -> u8 {
 }
 
 // At every place another byte.
-fn changes(title: &[u8], sample: &[u8], by: u8) {
+fn changes(rt: &impl Print, title: &str, sample: &[u8], by: u8) -> io::Result<()> {
     let mut counts = [0u64; 16];
     let mut at: usize = 0;
     while at < sample.len() {
@@ -209,70 +219,73 @@ fn changes(title: &[u8], sample: &[u8], by: u8) {
         tally(&mut counts, respelled(sample, at, 1, &byte));
         at += 1;
     }
-    print_counts(title, &counts);
+    print_counts(rt, title, &counts)
 }
 
-fn titles(sample: &[u8]) {
+fn titles(rt: &impl Print, sample: &[u8]) -> io::Result<()> {
     let title = [b'x'; 257];
-    print_respelled(b"title of 0 bytes:", sample, 27, 10, b"");
-    print_respelled(b"title of 255 bytes:", sample, 27, 10, &title[..255]);
-    print_respelled(b"title of 256 bytes:", sample, 27, 10, &title[..256]);
-    print_respelled(b"title of 257 bytes:", sample, 27, 10, &title);
-    print_respelled(b"carriage return in the title:", sample, 30, 1, b"\r");
-    print_respelled(b"line feed in the title:", sample, 30, 1, b"\n");
+    print_respelled(rt, "title of 0 bytes:", sample, 27, 10, b"")?;
+    print_respelled(rt, "title of 255 bytes:", sample, 27, 10, &title[..255])?;
+    print_respelled(rt, "title of 256 bytes:", sample, 27, 10, &title[..256])?;
+    print_respelled(rt, "title of 257 bytes:", sample, 27, 10, &title)?;
+    print_respelled(rt, "carriage return in the title:", sample, 30, 1, b"\r")?;
+    print_respelled(rt, "line feed in the title:", sample, 30, 1, b"\n")
 }
 
 // The counts of the sample's 5 points and 2 cells spelled otherwise.
-fn counts(sample: &[u8]) {
-    print_respelled(b"05 points:", sample, 78, 1, b"05");
-    print_respelled(b"4 points:", sample, 78, 1, b"4");
-    print_respelled(b"no points:", sample, 78, 1, b"");
-    print_respelled(b"4294967295 points:", sample, 78, 1, b"4294967295");
-    print_respelled(b"42949672950 points:", sample, 78, 1, b"42949672950");
-    print_respelled(b"cells 2 010:", sample, 153, 4, b"2 010");
-    print_respelled(b"cells 2 11:", sample, 153, 4, b"2 11");
+fn counts(rt: &impl Print, sample: &[u8]) -> io::Result<()> {
+    print_respelled(rt, "05 points:", sample, 78, 1, b"05")?;
+    print_respelled(rt, "4 points:", sample, 78, 1, b"4")?;
+    print_respelled(rt, "no points:", sample, 78, 1, b"")?;
+    print_respelled(rt, "4294967295 points:", sample, 78, 1, b"4294967295")?;
+    print_respelled(rt, "42949672950 points:", sample, 78, 1, b"42949672950")?;
+    print_respelled(rt, "cells 2 010:", sample, 153, 4, b"2 010")?;
+    print_respelled(rt, "cells 2 11:", sample, 153, 4, b"2 11")?;
     print_respelled(
-        b"cells 1999999999 9999999995:",
+        rt,
+        "cells 1999999999 9999999995:",
         sample,
         153,
         4,
         b"1999999999 9999999995",
-    );
+    )?;
     print_respelled(
-        b"cells 2000000000 10000000000:",
+        rt,
+        "cells 2000000000 10000000000:",
         sample,
         153,
         4,
         b"2000000000 10000000000",
-    );
+    )?;
     print_respelled(
-        b"cells 4294967295 21474836475:",
+        rt,
+        "cells 4294967295 21474836475:",
         sample,
         153,
         4,
         b"4294967295 21474836475",
-    );
-    print_respelled(b"02 types:", sample, 210, 1, b"02");
-    print_respelled(b"3 numbers:", sample, 231, 1, b"3");
+    )?;
+    print_respelled(rt, "02 types:", sample, 210, 1, b"02")?;
+    print_respelled(rt, "3 numbers:", sample, 231, 1, b"3")
 }
 
-fn read_all(sample: &[u8]) {
-    print_text(b"read:");
-    print_outcome(outcome(sample, sample) as u64);
-    print_text(b"\n");
-    titles(sample);
-    counts(sample);
-    print_respelled(b"a byte behind the end:", sample, 287, 0, b"\n");
-    parts(sample);
-    changes(b"each byte 1 more:", sample, 1);
-    changes(b"each byte 128 more:", sample, 128);
-    changes(b"each byte 1 less:", sample, 255);
-    respellings(b"each byte left out:", sample, 1, b"");
-    respellings(b"a line feed before each byte:", sample, 0, b"\n");
+fn read_all(rt: &impl Print, sample: &[u8]) -> io::Result<()> {
+    print_text(rt, "read:")?;
+    print_outcome(rt, outcome(sample, sample) as u64)?;
+    print_text(rt, "\n")?;
+    titles(rt, sample)?;
+    counts(rt, sample)?;
+    print_respelled(rt, "a byte behind the end:", sample, 287, 0, b"\n")?;
+    parts(rt, sample)?;
+    changes(rt, "each byte 1 more:", sample, 1)?;
+    changes(rt, "each byte 128 more:", sample, 128)?;
+    changes(rt, "each byte 1 less:", sample, 255)?;
+    respellings(rt, "each byte left out:", sample, 1, b"")?;
+    respellings(rt, "a line feed before each byte:", sample, 0, b"\n")
 }
 
-fn main() {
+fn main(rt: HostRuntime) -> io::Result<()> {
     let mut sample = [0u8; 287];
-    write_sample(&mut sample);
-    read_all(&sample);
+    write_sample(&rt, &mut sample)?;
+    read_all(&rt, &sample)
 }

@@ -2,36 +2,43 @@
 // a 4 what it names, and for a plan the x origin and the unit as bit patterns, the dimensions and the octants.
 #![tactic(auto)]
 
-use libc::STDOUT_FILENO;
 use plan::{Bounds, Plan, Planned, Refusal};
+use std::io;
 
-fn print_text(text: &[u8]) {
-    io::write_all(STDOUT_FILENO, text);
+fn print_text(rt: &impl Print, text: &str) -> io::Result<()> {
+    rt.print(text)
 }
 
-fn print_number(n: u32) {
-    print_text(b" ");
-    io::print_decimal(STDOUT_FILENO, n as u64);
+fn print_number(rt: &impl Print, n: u32) -> io::Result<()> {
+    print!(rt; " {n}")
 }
 
-fn print_pattern(x: f32) {
-    print_text(b" ");
-    io::print_hex(STDOUT_FILENO, float32::from_f32(x) as u64, 8);
+fn print_pattern(rt: &impl Print, x: f32) -> io::Result<()> {
+    let pattern = float32::from_f32(x);
+    print!(rt; " {pattern:08x}")
 }
 
 // 0 where there is none.
-fn print_refusal(why: Refusal) {
+fn print_refusal(rt: &impl Print, why: Refusal) -> io::Result<()> {
     match why {
-        Refusal::Number(number) => print_number(number),
+        Refusal::Number(number) => print_number(rt, number),
         Refusal::TooLarge(fault) => {
-            print_number(4);
-            print_number(fault);
+            print_number(rt, 4)?;
+            print_number(rt, fault)
         }
     }
 }
 
 // The plan of the box from x0 to x1 along x and from y0 to y1 along the other two; floats by their patterns.
-fn show(x0: u32, x1: u32, y0: u32, y1: u32, c: u32, levels: u32) {
+fn show(
+    rt: &impl Print,
+    x0: u32,
+    x1: u32,
+    y0: u32,
+    y1: u32,
+    c: u32,
+    levels: u32,
+) -> io::Result<()> {
     let y = float32::to_f32(y0);
     let top = float32::to_f32(y1);
     let b = Bounds {
@@ -43,56 +50,64 @@ fn show(x0: u32, x1: u32, y0: u32, y1: u32, c: u32, levels: u32) {
         z1: top,
     };
     let a = Plan::new(b, float32::to_f32(c), levels);
-    print_refusal(a.refusal());
+    print_refusal(rt, a.refusal())?;
     if let Planned::Ready(p) = a {
-        print_pattern(p.ox);
-        print_pattern(p.half);
-        print_number(p.nx);
-        print_number(p.ny);
-        print_number(p.nz);
-        print_number(p.octants);
+        print_pattern(rt, p.ox)?;
+        print_pattern(rt, p.half)?;
+        print_number(rt, p.nx)?;
+        print_number(rt, p.ny)?;
+        print_number(rt, p.nz)?;
+        print_number(rt, p.octants)?;
     }
-    print_text(b"\n");
+    print_text(rt, "\n")
 }
 
-fn main() {
-    print_text(b"c 1, L 1, x to 58 and to 59\n");
-    show(0, 0x4268_0000, 0, 0, 0x3F80_0000, 1);
-    show(0, 0x426C_0000, 0, 0, 0x3F80_0000, 1);
-    print_text(b"c 1, L 0, x to 60 and to 60.5\n");
-    show(0, 0x4270_0000, 0, 0, 0x3F80_0000, 0);
-    show(0, 0x4272_0000, 0, 0, 0x3F80_0000, 0);
-    print_text(b"c 1, L 5, box all 0 and x to 0.25; L 6\n");
-    show(0, 0, 0, 0, 0x3F80_0000, 5);
-    show(0, 0x3E80_0000, 0, 0, 0x3F80_0000, 5);
-    show(0, 0, 0, 0, 0x3F80_0000, 6);
-    print_text(b"x at -7.3127151, c 0.3, L 1: the loosened bounds are rounded\n");
-    show(0xC0EA_01C3, 0xC0EA_01C3, 0, 0, 0x3E99_999A, 1);
-    print_text(b"c 1.7, L 1\n");
-    show(0, 0, 0, 0, 0x3FD9_999A, 1);
-    print_text(b"box at 1e8, c 1, L 1\n");
+fn main(rt: HostRuntime) -> io::Result<()> {
+    print_text(&rt, "c 1, L 1, x to 58 and to 59\n")?;
+    show(&rt, 0, 0x4268_0000, 0, 0, 0x3F80_0000, 1)?;
+    show(&rt, 0, 0x426C_0000, 0, 0, 0x3F80_0000, 1)?;
+    print_text(&rt, "c 1, L 0, x to 60 and to 60.5\n")?;
+    show(&rt, 0, 0x4270_0000, 0, 0, 0x3F80_0000, 0)?;
+    show(&rt, 0, 0x4272_0000, 0, 0, 0x3F80_0000, 0)?;
+    print_text(&rt, "c 1, L 5, box all 0 and x to 0.25; L 6\n")?;
+    show(&rt, 0, 0, 0, 0, 0x3F80_0000, 5)?;
+    show(&rt, 0, 0x3E80_0000, 0, 0, 0x3F80_0000, 5)?;
+    show(&rt, 0, 0, 0, 0, 0x3F80_0000, 6)?;
+    print_text(
+        &rt,
+        "x at -7.3127151, c 0.3, L 1: the loosened bounds are rounded\n",
+    )?;
+    show(&rt, 0xC0EA_01C3, 0xC0EA_01C3, 0, 0, 0x3E99_999A, 1)?;
+    print_text(&rt, "c 1.7, L 1\n")?;
+    show(&rt, 0, 0, 0, 0, 0x3FD9_999A, 1)?;
+    print_text(&rt, "box at 1e8, c 1, L 1\n")?;
     show(
+        &rt,
         0x4CBE_BC20,
         0x4CBE_BC20,
         0x4CBE_BC20,
         0x4CBE_BC20,
         0x3F80_0000,
         1,
-    );
-    print_text(b"c 5 * 2^-149, L 2; c 2^-149, L 1 and L 0\n");
-    show(0, 0, 0, 0, 5, 2);
-    show(0, 0, 0, 0, 1, 1);
-    show(0, 0, 0, 0, 1, 0);
+    )?;
+    print_text(&rt, "c 5 * 2^-149, L 2; c 2^-149, L 1 and L 0\n")?;
+    show(&rt, 0, 0, 0, 0, 5, 2)?;
+    show(&rt, 0, 0, 0, 0, 1, 1)?;
+    show(&rt, 0, 0, 0, 0, 1, 0)?;
     print_text(
-        b"only the far corner is not finite: c 2^104, y one place below the greatest, L 0; two places, L 1; c 5.6e37, x to 1e36, L 1\n",
-    );
-    show(0, 0, 0x7F7F_FFFE, 0x7F7F_FFFE, 0x7380_0000, 0);
-    show(0, 0, 0x7F7F_FFFD, 0x7F7F_FFFD, 0x7380_0000, 1);
-    show(0, 0x7B40_97CE, 0, 0, 0x7E28_84D5, 1);
-    print_text(b"x from 0 to -0; x from NaN; x to infinity; x from 1 to 0; c NaN and x from NaN\n");
-    show(0, 0x8000_0000, 0, 0, 0x3F80_0000, 1);
-    show(0x7FC0_0000, 0, 0, 0, 0x3F80_0000, 1);
-    show(0, 0x7F80_0000, 0, 0, 0x3F80_0000, 1);
-    show(0x3F80_0000, 0, 0, 0, 0x3F80_0000, 1);
-    show(0x7FC0_0000, 0, 0, 0, 0x7FC0_0001, 1);
+        &rt,
+        "only the far corner is not finite: c 2^104, y one place below the greatest, L 0; two places, L 1; c 5.6e37, x to 1e36, L 1\n",
+    )?;
+    show(&rt, 0, 0, 0x7F7F_FFFE, 0x7F7F_FFFE, 0x7380_0000, 0)?;
+    show(&rt, 0, 0, 0x7F7F_FFFD, 0x7F7F_FFFD, 0x7380_0000, 1)?;
+    show(&rt, 0, 0x7B40_97CE, 0, 0, 0x7E28_84D5, 1)?;
+    print_text(
+        &rt,
+        "x from 0 to -0; x from NaN; x to infinity; x from 1 to 0; c NaN and x from NaN\n",
+    )?;
+    show(&rt, 0, 0x8000_0000, 0, 0, 0x3F80_0000, 1)?;
+    show(&rt, 0x7FC0_0000, 0, 0, 0, 0x3F80_0000, 1)?;
+    show(&rt, 0, 0x7F80_0000, 0, 0, 0x3F80_0000, 1)?;
+    show(&rt, 0x3F80_0000, 0, 0, 0, 0x3F80_0000, 1)?;
+    show(&rt, 0x7FC0_0000, 0, 0, 0, 0x7FC0_0001, 1)
 }
