@@ -1,0 +1,11 @@
+use Rattle.decimal.proofs.Texts.{onwards, halted}
+use Rattle.vtk_layout.specs.Layout.{line_at}
+use Rattle.vtk_layout.proofs.line.Goals as goal
+
+pub returns-in-At : goal.returns-in-At
+unfolding line_at
+returns-in-At c = onwards _ _ _ _ _ c.text.ensures c.in-At.is c.block.ensures
+
+pub returns-in-Stopped : goal.returns-in-Stopped
+unfolding line_at
+returns-in-Stopped c = halted _ _ _ _ _ c.text.ensures c.in-Stopped.is
