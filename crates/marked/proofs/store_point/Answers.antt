@@ -8,7 +8,7 @@ pub returns-then-number-eq0 : goal.returns-then-number-eq0
 returns-then-number-eq0 c = point_unused c.wide-number.ensures c.if-number-eq0.true
 
 pub overflow_mul-to : goal.overflow_mul-to
-overflow_mul-to c = omega (arith, c.wide-number.ensures, c.shared_slice_known-3-1.given c.args.v)
+overflow_mul-to c = omega (arith, c.wide-number.ensures, c.type_inv.numbers c.args.v)
 
 pub store3-requires : goal.store3-requires
 store3-requires c = omega (arith, c.wide-number.ensures, c.if-number-eq0.false, c.requires.room (λ z. c.if-number-eq0.false (c.wide-number.ensures ∙ z)))
