@@ -200,9 +200,9 @@ module _ (d : Pos) (l : ℕ) (s : List ℕ) (c : Closed l d (read d l s)) (m : �
   pub all_turn : AllTurn (sides_at l d (read d l s) m x)
   unfolding sides_at
   all_turn = record {
-    x = (told_turns _ m x ax false (side l d (read d l s) m x ax false), told_turns _ m x ax true (side l d (read d l s) m x ax true));
-    y = (told_turns _ m x ay false (side l d (read d l s) m x ay false), told_turns _ m x ay true (side l d (read d l s) m x ay true));
-    z = (told_turns _ m x az false (side l d (read d l s) m x az false), told_turns _ m x az true (side l d (read d l s) m x az true));
+    x = (told_turns (finer l d (read d l s) m) m x ax false (side l d (read d l s) m x ax false), told_turns (finer l d (read d l s) m) m x ax true (side l d (read d l s) m x ax true));
+    y = (told_turns (finer l d (read d l s) m) m x ay false (side l d (read d l s) m x ay false), told_turns (finer l d (read d l s) m) m x ay true (side l d (read d l s) m x ay true));
+    z = (told_turns (finer l d (read d l s) m) m x az false (side l d (read d l s) m x az false), told_turns (finer l d (read d l s) m) m x az true (side l d (read d l s) m x az true));
   }
 
   module _ (number : ℕ → ℕ) where

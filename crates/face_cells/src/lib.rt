@@ -83,7 +83,7 @@ fn fan(
     fine: Edges,
 ) -> usize
     requires lookup { Lookup work.now vertices }
-    requires w_bound { f.k + 2 * f.v + 2 * f.w < 2 ^ 64 }
+    requires keys_fit { f.k + 2 * f.v + 2 * f.w < 2 ^ 64 }
     requires room { Room out.old at (fan_numbers (rank_in work.now vertices) p q f fine) }
     ensures { Stored out.old at (fan_numbers (rank_in work.now vertices) p q f fine) result out.new }
 {
@@ -163,7 +163,7 @@ fn face_cells(
     f: Quad,
 ) -> usize
     requires lookup { Lookup work.now vertices }
-    requires w_bound { f.k + f.u + 2 * f.v + 2 * f.w < 2 ^ 64 }
+    requires keys_fit { f.k + f.u + 2 * f.v + 2 * f.w < 2 ^ 64 }
     requires turns { Turns side }
     requires room { Room out.old at (face_numbers (rank_in work.now vertices) side c f) }
     ensures { Stored out.old at (face_numbers (rank_in work.now vertices) side c f) result out.new }
@@ -231,7 +231,7 @@ fn axis_cells(
     o: Corners,
 ) -> usize
     requires lookup { Lookup work.now vertices }
-    requires w_bound { o.k + 3 * o.u + 2 * o.v + 2 * o.w < 2 ^ 64 }
+    requires keys_fit { o.k + 3 * o.u + 2 * o.v + 2 * o.w < 2 ^ 64 }
     requires turns { Turns low × Turns high }
     requires room { Room out.old at (axis_numbers (rank_in work.now vertices) low high o) }
     ensures { Stored out.old at (axis_numbers (rank_in work.now vertices) low high o) result out.new }
@@ -243,7 +243,7 @@ fn axis_cells(
 // Finds the leaf whose low corner has the key k. A corner mostly stands next to the one below it along the third axis.
 fn corners_at(work: &[u64], vertices: usize, k: u64, u: u64, v: u64, w: u64) -> Corners
     requires lookup { Lookup work.now vertices }
-    requires w_bound { k + 2 * u + 2 * v + 2 * w < 2 ^ 64 }
+    requires keys_fit { k + 2 * u + 2 * v + 2 * w < 2 ^ 64 }
     ensures { result ≡ corners_at (rank_in work.now vertices) k u v w }
 {
     let x = k + 2 * u;
@@ -307,7 +307,7 @@ pub fn six_faces(
     h: u64,
 ) -> usize
     requires lookup { Lookup work.now vertices }
-    requires k_lt_most_keys { (k < most_keys) × (h ≤ 32) }
+    requires leaf_small { (k < most_keys) × (h ≤ 32) }
     requires all_turn { AllTurn f }
     requires room { Room out.old at (leaf_numbers (rank_in work.now vertices) f k h) }
     ensures { Stored out.old at (leaf_numbers (rank_in work.now vertices) f k h) result out.new }

@@ -1,10 +1,10 @@
 -- The last cell of a group is its label. Assumes nothing.
-use mathlib.Core.Path.{◌≡◌, refl, sym, ap, subst, ◌∙◌}
+use mathlib.Core.Path.{◌≡◌, sym, ap, ◌∙◌}
 use mathlib.Core.List.{List}
-use Prim.Native.Nat.{ℕ, ◌+◌, ◌*◌, ◌/◌, ◌≤◌, ◌<◌}
+use Prim.Native.Nat.{ℕ, ◌*◌, ◌≤◌, ◌<◌}
 use native.Mathlib.Omega.{arith}
 use lib.ListN.{length, get_or}
-use Rattle.links.specs.Labels.{label_at, labels}
+use Rattle.links.specs.Labels.{label_at}
 use Rattle.links.specs.Walks.{Walk, here, fore, back, Groups, Share}
 use Rattle.links.specs.Parts.{SameCell}
 use Rattle.links.proofs.Walking.{one_label}

@@ -2,14 +2,13 @@
 use mathlib.Core.Path.{◌≡◌, refl, sym, ap, subst, ◌∙◌}
 use mathlib.Core.Logic.{◌⊎◌, inl, inr, ◌≢◌}
 use mathlib.Core.List.{List, ◌++◌}
-use Prim.Native.Nat.{ℕ, ◌+◌, ◌*◌, ◌/◌, ◌≤◌, ◌<◌, zero-le}
+use Prim.Native.Nat.{ℕ, ◌+◌, ◌*◌, ◌≤◌, ◌<◌}
 use native.Mathlib.Nat.{not-suc-le-zero}
 use native.Mathlib.Omega.{arith}
 use lib.ListN.{length, get_or, set, take, drop, length-set, length-drop}
 use lib.Seq.{length-take-le, length_front, get_or-set_same, get_or-set_other, take_at, drop_at, take-set-le, take-set-lt, drop-set-lt, drop-set-add, get_or-take, get_or-drop}
-use Rattle.mesh.specs.Mesh.{cells_of, most}
-use Rattle.lists.proofs.Cases.{eq_or, lt_or, below_set}
-use Rattle.links.specs.Labels.{label_at}
+use Rattle.mesh.specs.Mesh.{cells_of}
+use Rattle.lists.proofs.Cases.{eq_or, below_set}
 use Rattle.links.specs.Walks.{Groups}
 use Rattle.links.specs.Parts.{Forest, Roots, Rooted, SameCell, Joint}
 use Rattle.groups.specs.Parts.{Sized, Linked, RootNoted, Rooting, LastNoted, Labelled}

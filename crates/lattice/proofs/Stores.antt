@@ -1,10 +1,9 @@
 -- Laws of the stores of octahedra. Assumes nothing.
 use mathlib.Core.Path.{◌≡◌, refl, ap, ◌∙◌}
-use mathlib.Core.Bool.{Bool, true, false, not, ◌&&◌}
+use mathlib.Core.Bool.{Bool, true, false, ◌&&◌}
 use mathlib.Core.List.{List, [], ◌∷◌, ◌++◌, append_assoc}
 use Prim.Native.Nat.{ℕ, ◌+◌, ◌-◌, ◌<◌}
 use native.Mathlib.Omega.{arith}
-use borrow.Author.Tests.{not-true, not-false}
 use lib.ListN.{length}
 use lib.Seq.{sets}
 use lib.Dec.{ltb}
@@ -18,13 +17,13 @@ piece : (o o' : List ℕ) (at n : ℕ) (l : List ℕ) → n ≡ at + length l �
 piece o o' at n l e k = record { count = e; kept = k }
 
 module _ (row here : Bool) (o : Octa) where
-  pub octa_row : (l : List ℕ) (at : ℕ) → not row ≡ true → Stored l at (octa_numbers (row && here) o) at l
+  pub octa_row : (l : List ℕ) (at : ℕ) → row ≡ false → Stored l at (octa_numbers (row && here) o) at l
   unfolding octa_numbers
-  octa_row l at h = stored_none l _ at (rw (not-true row h) refl)
+  octa_row l at h = stored_none l _ at (rw h refl)
 
-  pub octa_here : (l : List ℕ) (at : ℕ) → not row ≡ false → not here ≡ true → Stored l at (octa_numbers (row && here) o) at l
+  pub octa_here : (l : List ℕ) (at : ℕ) → row ≡ true → here ≡ false → Stored l at (octa_numbers (row && here) o) at l
   unfolding octa_numbers
-  octa_here l at g h = stored_none l _ at (rw (not-false row g, not-true here h) refl)
+  octa_here l at g h = stored_none l _ at (rw (g, h) refl)
 
   -- its four cells
   abbrev q0 : List ℕ
@@ -39,10 +38,10 @@ module _ (row here : Bool) (o : Octa) where
   abbrev q3 : List ℕ
   q3 = o.centre ∷ o.opposite ∷ (o.low + o.u) ∷ (o.low + o.u + o.v) ∷ []
 
-  module _ (g : not row ≡ false) (h : not here ≡ false) where
+  module _ (g : row ≡ true) (h : here ≡ true) where
     is_there : octa_numbers (row && here) o ≡ q0 ++ (q1 ++ (q2 ++ q3))
     unfolding octa_numbers
-    is_there = rw (not-false row g, not-false here h) refl
+    is_there = rw (g, h) refl
 
     pub octa_long : length (octa_numbers (row && here) o) ≡ 16
     octa_long = ap length is_there

@@ -45,7 +45,7 @@ pub fn unpack(leaf: u64) -> Octant
 fn note_leaf(split: &[u8], d: Roots, o: Octant, out: &mut [u64], tally: Tally) -> Tally
     requires taken { Taken split.now d × LeafIn split.now d o }
     requires leaves_bound { tally.leaves + 1 < 2 ^ 64 }
-    requires o_bound { tally.cells + length (cells_at split.now d o) < 2 ^ 64 }
+    requires cells_bound { tally.cells + length (cells_at split.now d o) < 2 ^ 64 }
     ensures { Walked out.old tally (packed o.level (place_of o) ∷ []) (cells_at split.now d o) result out.new }
 {
     let at = tally.leaves;

@@ -1,6 +1,6 @@
 -- What the parts of the code ask and give. In the work table w there are n entries for the points in front, and behind them one for each
 -- cell: first whether it is marked, and then whether it stays: 0 no, 1 as it is, 2 exchanged.
-use Rattle.std.specs.Prelude.{◌≡◌, ◌≢◌, Bool, cond, not, List, [], ◌∷◌, map, ℕ, ◌+◌, ◌-◌, ◌*◌, ◌≤◌, ◌<◌, eqb, Float, length, get_or, set, take, drop}
+use Rattle.std.specs.Prelude.{◌≡◌, ◌≢◌, Bool, cond, not, List, [], map, ℕ, ◌+◌, ◌-◌, ◌*◌, ◌≤◌, ◌<◌, eqb, Float, length, get_or, set, take, drop}
 use Rattle.std.proofs.lemmas.List.Edits.{sets}
 use Rattle.lists.specs.Tests.{bit}
 use Rattle.lists.specs.Appearance.{place, noted, Table}

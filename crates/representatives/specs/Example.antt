@@ -1,6 +1,5 @@
 -- Calls of `representatives` with all that they answer and leave, computed from the definitions.
 use Rattle.std.specs.Prelude.{◌≡◌, refl, List, [], ◌∷◌, ◌++◌, map, ℕ, replicate}
-use Rattle.std.specs.Float.{binary32}
 use Rattle.std.specs.Float.Ieee.{of_bits, to_bits, add, div}
 use Rattle.refusals.specs.Rows.{first, unless}
 use Rattle.refusals.specs.Causes.{work_rows, each_rows, answer_rows}

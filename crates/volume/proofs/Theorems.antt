@@ -8,7 +8,6 @@ use borrow.Author.Tests.{le-ltb}
 use lib.Ieee.{Float, nan, inf, fin, up, down, lt}
 use Rattle.float32.specs.Operations.{zero32}
 use Rattle.volume.specs.Volume.{size_of, verdict_of, volume_in}
-use Rattle.volume.specs.declared.Verdict.{Verdict}
 use Rattle.volume.specs.declared.Verdict.TheVariants.{Kept, Exchanged, Dropped}
 
 pub carries_volume : (v least : Float) → volume_in (verdict_of v least) ≡ v

@@ -1,0 +1,39 @@
+use native.Mathlib.Omega.{arith}
+use Rattle.lattice.proofs.Stores.{octa_row, octa_here, octa_long, octa_stored}
+use Rattle.lattice.proofs.octahedron.Goals as goal
+
+pub returns-then-not-row : goal.returns-then-not-row
+returns-then-not-row c = let a = c.args in octa_row a.row a.here a.o _ _ c.if-not-row.true
+
+pub returns-then-not-here : goal.returns-then-not-here
+returns-then-not-here c = let a = c.args in octa_here a.row a.here a.o _ _ c.if-not-row.false c.if-not-here.true
+
+pub store4-requires : goal.store4-requires
+store4-requires c =
+    let a = c.args in
+    omega (arith, c.requires.room.fits, octa_long a.row a.here a.o c.if-not-row.false c.if-not-here.false)
+
+pub store4-requires-2 : goal.store4-requires-2
+store4-requires-2 c =
+    let a = c.args in
+    omega (arith, c.requires.room.fits, octa_long a.row a.here a.o c.if-not-row.false c.if-not-here.false, c.store4.auto.table)
+
+pub store4-requires-3 : goal.store4-requires-3
+store4-requires-3 c =
+    let a = c.args in
+    omega (arith, c.requires.room.fits, octa_long a.row a.here a.o c.if-not-row.false c.if-not-here.false, c.store4.auto.table, c.store4-2.auto.table)
+
+pub store4-requires-4 : goal.store4-requires-4
+store4-requires-4 c =
+    let a = c.args in
+    omega (arith, c.requires.room.fits, octa_long a.row a.here a.o c.if-not-row.false c.if-not-here.false, c.store4.auto.table, c.store4-2.auto.table, c.store4-3.auto.table)
+
+pub overflow_add-result : goal.overflow_add-result
+overflow_add-result c =
+    let a = c.args in
+    omega (arith, c.requires.room.fits, octa_long a.row a.here a.o c.if-not-row.false c.if-not-here.false, c.well_formed)
+
+pub returns : goal.returns
+returns c =
+    let a = c.args in
+    octa_stored a.row a.here a.o c.if-not-row.false c.if-not-here.false _ _ _ _ _ a.at c.store4.ensures c.store4-2.ensures c.store4-3.ensures c.store4-4.ensures
