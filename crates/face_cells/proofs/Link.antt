@@ -2,12 +2,12 @@
 use mathlib.Core.Path.{◌≡◌, refl, ap, ap₂, ◌∙◌}
 use mathlib.Core.Bool.{Bool, true, false, cond, not}
 use mathlib.Core.List.{List, [], ◌∷◌, ◌++◌, append_assoc}
-use Prim.Native.Nat.{ℕ, zero, suc, ◌+◌, ◌*◌, ◌-◌, ◌^◌, ◌≤◌}
+use Prim.Native.Nat.{ℕ, zero, suc, ◌+◌, ◌*◌, ◌^◌, ◌≤◌}
 use native.Mathlib.Omega.{arith}
 use Rattle.space.specs.Space.{Axis, ax, ay, az, Pos, pos, next}
 use Rattle.octants.specs.Oct.{width, Closed}
 use Rattle.octants.specs.Table.{read}
-use Rattle.octree_cells.specs.Cells.{corner, Cell, cell, Face, face, face_centre, centre, middle, beside, end, turned, turns_to, same, over, fan, halves, cells_to, Side, split, equal, coarser, border, side, finer, face_cells, axis_cells, leaf_cells, flat}
+use Rattle.octree_cells.specs.Cells.{Cell, cell, Face, face, face_centre, centre, middle, beside, end, turned, turns_to, same, over, fan, halves, cells_to, Side, split, equal, coarser, border, side, finer, face_cells, axis_cells, leaf_cells, flat}
 use Rattle.octree_cells.proofs.Flat.{flat_append}
 use Rattle.octree_cells.proofs.Points.{Here, drawn_centre, drawn_opposite, drawn_face, drawn_middle, small, by_axis, DrawnFace}
 use Rattle.octree_cells.specs.Leaf.{IsLeaf}

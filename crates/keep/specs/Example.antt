@@ -1,6 +1,5 @@
 -- Calls of `keep_cover` with all that they answer and leave, computed from the definitions.
-use Rattle.std.specs.Prelude.{◌≡◌, refl, Bool, true, false, List, [], ◌∷◌, ◌++◌, map, ℕ, Float, replicate}
-use Rattle.std.specs.Float.{binary32}
+use Rattle.std.specs.Prelude.{◌≡◌, refl, List, [], ◌∷◌, map, ℕ, replicate}
 use Rattle.std.specs.Float.Ieee.{of_bits, add, sub, mul, div, neg, lt}
 use Rattle.float32.specs.Operations.{f32}
 use Rattle.refusals.specs.Rows.{first, unless}

@@ -7,7 +7,7 @@ use Rattle.space.specs.Space.{Pos}
 use Rattle.octants.specs.Oct.{Tree, counts, within}
 use Rattle.octree.specs.Parts.{place_of}
 use Rattle.octree.specs.declared.Octant.{Octant}
-use Rattle.octree_cells.specs.Cells.{Cover, none, leaf, up, descent, covering, of_level, is_leaf}
+use Rattle.octree_cells.specs.Cells.{Cover, none, leaf, descent, covering, of_level, is_leaf}
 use Rattle.octree_cells.proofs.Shell.{up_zero}
 use Rattle.lookup.specs.Parts.{ancestor_of, descent_of, covered_of, cover_of}
 use Rattle.lookup.specs.declared.Covered.{Covered}

@@ -16,7 +16,6 @@ use Rattle.lists.proofs.Listing.{length_list}
 use Rattle.refusals.specs.Rows.{first}
 use Rattle.refusals.proofs.Rows.{unless_none, unless_some}
 use Rattle.mesh.specs.Mesh.{points_of, cells_of}
-use Rattle.groups.specs.Parts.{Laid}
 use Rattle.groups.proofs.Unrefused.{sized_front}
 use Rattle.sorting.specs.Numbers.{cnt}
 use Rattle.volume.specs.Volume.{least_of}

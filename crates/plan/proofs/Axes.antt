@@ -1,6 +1,6 @@
 -- What a scale and an axis are bounded by. Assumes nothing.
 use mathlib.Core.Path.{◌≡◌, refl, subst}
-use mathlib.Core.Bool.{Bool, true, false, ◌&&◌, cond}
+use mathlib.Core.Bool.{Bool, true, false, cond}
 use Prim.Native.Nat.{ℕ, ◌≤◌}
 use native.Mathlib.Nat.{le_trans, le-max_left, mul-le-mul_left}
 use native.Mathlib.Omega.{arith}

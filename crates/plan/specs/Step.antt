@@ -1,7 +1,6 @@
 -- The plan: from a box, a cell size c and a number of levels to an origin, a unit and dimensions, or to a refusal. Every operation on
 -- floats is one of binary32, in the order written.
 use Rattle.std.specs.Prelude.{◌≡◌, ℕ, ◌*◌, ◌^◌, ◌<◌, max, Bool, true, false, not, ◌&&◌, cond, List, [], ◌∷◌, ◌++◌, leb, ltb, eqb, get_or, Float}
-use Rattle.std.specs.Float.{binary32}
 use Rattle.std.specs.Float.Ieee.{neg, lt}
 use Rattle.std.specs.Float.Ieee.Scale.{finite}
 use Rattle.std.specs.Float.Ieee.Positive.{positive}

@@ -4,9 +4,6 @@ use Rattle.float32.proofs.Wholes.{stays, exceeds}
 use Rattle.float32.proofs.Theorems.{first_is}
 use Rattle.float32.proofs.ceiling.Goals as goal
 
-small : (n most : ℕ) → n ≤ most → most < 8388608 → n ≤ 2 ^ 24
-small n most h b = omega arith
-
 pub loop-n-init : goal.loop-n-init
 loop-n-init c = record { within = go c.start-n.result c.start-n.ensures.within; before = c.start-n.ensures.before }
   where
@@ -15,16 +12,16 @@ loop-n-init c = record { within = go c.start-n.result c.start-n.ensures.within; 
 
 pub int_to_float-n : goal.int_to_float-n
 unfolding in_float
-int_to_float-n c = le→leb c.loop-n.n (2 ^ 24) (small _ _ c.loop-n-test.true c.requires)
+int_to_float-n c = le→leb c.loop-n.n (2 ^ 24) (omega arith)
 
 pub loop-n-preserved : goal.loop-n-preserved
 loop-n-preserved c =
-    record { within = omega arith; before = below_more _ _ c.loop-n.invariant.before (exceeds c.loop-n.n c.args.x (small _ _ c.loop-n-test.true c.requires) c.if-x-n.true) }
+    record { within = omega arith; before = below_more _ _ c.loop-n.invariant.before (exceeds c.loop-n.n c.args.x (omega arith) c.if-x-n.true) }
 
 pub returns-else-x-n : goal.returns-else-x-n
 returns-else-x-n c =
     let a = c.args in
-    first_is a.most a.x c.loop-n.n c.loop-n.invariant (λ g. stays c.loop-n.n a.x (small _ _ c.loop-n-test.true c.requires) c.if-x-n.false)
+    first_is a.most a.x c.loop-n.n c.loop-n.invariant (λ g. stays c.loop-n.n a.x (omega arith) c.if-x-n.false)
 
 pub returns : goal.returns
 returns c =

@@ -1,8 +1,7 @@
-use Rattle.std.proofs.Common.{◌≡◌, ℕ, ◌+◌, ◌≤◌, Bool, ap, ◌∙◌, arith}
+use Rattle.std.proofs.Common.{ap, ◌∙◌, arith}
 use Rattle.lists.proofs.Tests.{failed, passed}
-use Rattle.octree.specs.Parts.{roots_of, place_of, tree_of}
+use Rattle.octree.specs.Parts.{roots_of, tree_of}
 use Rattle.octree.specs.declared.Octant.{Octant}
-use Rattle.lookup.specs.Parts.{ancestor_of}
 use Rattle.lookup.proofs.Descent.{over_read, descent_leaf, descent_split, descent_down}
 use Rattle.lookup.proofs.+descend.Goals as goal
 
