@@ -18,7 +18,7 @@ use Rattle.lists.proofs.Any.{any_some, some_any}
 use Rattle.space.proofs.Space.{pos_eta, frame_all, frame_eta}
 use Rattle.octants.proofs.Near.{within_in, in_within}
 use Rattle.octants.proofs.Least.{closed_octree, parent_inside}
-use Rattle.octree_cells.specs.Cells.{corner, middle, end, none, leaf, descent, of_level, is_leaf, at_most, leaf_at, leaf_around, finer, stepped}
+use Rattle.octree_cells.specs.Cells.{corner, middle, end, none, descent, of_level, is_leaf, at_most, leaf_at, leaf_around, finer, stepped}
 use Rattle.octree_cells.specs.Leaf.{own, opened}
 use Rattle.octree_cells.proofs.Opened.{own_opened, opened_parent}
 

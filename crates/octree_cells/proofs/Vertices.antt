@@ -10,7 +10,7 @@ use lib.Dec.{eqb}
 use borrow.Author.Tests.{eqb-true, ltb-true}
 use Rattle.space.specs.Space.{Axis, ax, ay, az, Pos, pos, Inside, frame}
 use Rattle.lists.specs.Tests.{any}
-use Rattle.octants.specs.Oct.{Tree, counts, width, In, Closed, within}
+use Rattle.octants.specs.Oct.{Tree, counts, width, Closed, within}
 use Rattle.lists.proofs.Bools.{and_both, or_cases, or_left, or_right, bool_cases, bool_ext, clash}
 use Rattle.lists.proofs.Any.{any_some}
 use Rattle.space.proofs.Space.{pos_eta}

@@ -1,7 +1,7 @@
 -- The cells of an octree grid, as section 4 of the rules and the Rust's leaf_cells have them, on integer triples. Assumes nothing: these are
 -- definitions. The Rust's names: width, corner, center, face_corners, face_center, covering_leaf, has_finer_vertex, leaf_cells, leaves.
 use Rattle.std.specs.Prelude.{Bool, true, false, cond, not, ◌&&◌, List, [], ◌∷◌, ◌++◌, ℕ, zero, suc, ◌+◌, ◌*◌, ◌-◌, ◌/◌, ◌%◌, ◌^◌, eqb, ltb, leb}
-use Rattle.space.specs.Space.{next, frame, Axis, ax, ay, az, Pos, pos}
+use Rattle.space.specs.Space.{frame, Axis, ax, ay, az, Pos, pos}
 use Rattle.lists.specs.Tests.{any}
 use Rattle.octants.specs.Oct.{Tree, counts, within, width}
 

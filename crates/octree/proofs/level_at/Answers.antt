@@ -5,7 +5,6 @@ use native.Mathlib.Nat.{one-mul}
 use Prim.Native.Nat.{◌^◌, ℕ, ◌*◌, ◌≤◌}
 use Rattle.space.specs.Levels.{most_roots, Counts, most_levels}
 use Rattle.space.proofs.Levels.{Small, small}
-use Rattle.octree.specs.Parts.{roots_of}
 use Rattle.octree.proofs.Levels.{level_is}
 use Rattle.octree.proofs.level_at.Goals as goal
 
