@@ -10,7 +10,7 @@ fn main() {
     println!("cargo:rerun-if-changed={}", archive.display());
     let (true, Some(folder)) = (archive.is_file(), archive.parent()) else {
         eprintln!(
-            "{} is missing. Build it in the repository's root with `rt staticlib sporeferry`, \
+            "{} is missing. Build it in the repository's root with `tools/archive`, \
              or name another in SPOREFERRY_LIB.",
             archive.display()
         );

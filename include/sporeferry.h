@@ -1,4 +1,4 @@
-/* Sporeferry: the C functions of libsporeferry.a (x86-64). Build it with `rt staticlib sporeferry`.
+/* Sporeferry: the C functions of libsporeferry.a (x86-64). Build it with `tools/archive`.
  *
  * Every function answers for anything it is handed; none keeps state, allocates, or calls back.
  *

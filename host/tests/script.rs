@@ -16,10 +16,10 @@ use std::time::Duration;
 fn unbuilt(name: &str, rt: &str) -> Folder {
     let folder = Folder::new(name);
     let root = PathBuf::from(env!("CARGO_MANIFEST_DIR")).join("..");
-    for inner in ["host/help", "host/src", "crates", "bin", "tmp"] {
+    for inner in ["host/help", "host/src", "crates/sporeferry_c", "tools", "bin", "tmp"] {
         fs::create_dir_all(folder.0.join(inner)).unwrap();
     }
-    for file in ["sporeferry", "crates.txt", "host/Cargo.toml", "host/build.rs"] {
+    for file in ["sporeferry", "tools/archive", "crates.txt", "host/Cargo.toml", "host/build.rs"] {
         fs::copy(root.join(file), folder.0.join(file)).unwrap();
     }
     for text in fs::read_dir(root.join("host/help")).unwrap() {
@@ -66,8 +66,12 @@ fn help_and_version_need_no_building_and_are_the_tools_own() {
 
 #[test]
 fn a_build_tells_how_far_it_is_and_what_comes_after_the_last_proof() {
-    let folder =
-        unbuilt("build", "echo rt: lists proved; echo noise; echo rt: plan proved; echo rt: ok, 2");
+    let folder = unbuilt(
+        "build",
+        "echo crate lists: modules; echo logic=proved functions=3; echo noise
+         echo crate plan: modules; echo logic=proved functions=4; echo rt: ok, 2
+         mkdir -p out; touch out/libsporeferry_c.a",
+    );
     let (code, _, error) = run_command(&folder, script(&folder, "sporeferry").arg("info"));
     assert_eq!(code, 3, "{error}");
     assert!(error.contains("sporeferry: 1 of ") && error.contains(": lists proved\n"), "{error}");

@@ -1,4 +1,4 @@
-//! The short comparison, as the gate runs it. It wants the library: `rt staticlib sporeferry`.
+//! The short comparison, as the gate runs it. It wants the library: `tools/archive`.
 
 use oracle::steps::{self, Sizes};
 

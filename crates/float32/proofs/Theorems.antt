@@ -1,5 +1,5 @@
 -- The ceiling is the least whole number that a float is not above. Assumes nothing.
-use Rattle.std.proofs.Common.{◌≡◌, ℕ, suc, ◌+◌, ◌*◌, ◌<◌, ◌≤◌, min, Bool, true, false, not, sym, refl, ◌∙◌, zero-le, le_trans, le_of_eq, le_refl, le_antisymm, add-one, arith, le-leb, leb-true}
+use Rattle.std.proofs.Common.{◌≡◌, ℕ, suc, ◌+◌, ◌*◌, ◌<◌, ◌≤◌, min, Bool, true, false, sym, refl, ◌∙◌, zero-le, le_trans, le_of_eq, le_refl, le_antisymm, add-one, arith, le-leb, leb-true}
 use lib.Ieee.{Float, nan, inf, fin, up, down}
 use lib.Ieee.Fits.{down_pos}
 use Rattle.float32.specs.Ceiling.{not_above, up_div, ceil_to}

@@ -1,5 +1,5 @@
 -- The points that a cell of a table names. Assumes nothing.
-use mathlib.Core.Path.{◌≡◌, refl, sym}
+use mathlib.Core.Path.{◌≡◌, refl}
 use mathlib.Core.List.{List}
 use Prim.Native.Nat.{ℕ, ◌+◌, ◌*◌, ◌<◌}
 use native.Mathlib.Omega.{arith}

@@ -8,7 +8,7 @@ use Rattle.refusals.specs.Rows.{Row, first, proper, unless}
 use Rattle.refusals.specs.Causes.{room_rows}
 use Rattle.refusals.specs.Counted.{number_of}
 use Rattle.refusals.specs.declared.Counted.{Counted}
-use Rattle.refusals.specs.declared.Counted.TheVariants.{Done, Refused, Short}
+use Rattle.refusals.specs.declared.Counted.TheVariants.{Refused, Short}
 use Rattle.refusals.proofs.Rows.{number_rows}
 
 -- short of room, and else what follows

@@ -1,11 +1,11 @@
 -- Laws of the refusals in their order. Assumes nothing.
 use mathlib.Core.Path.{◌≡◌, refl, sym, ap, ◌∙◌}
 use mathlib.Core.Logic.{◌⊎◌, inl, inr, ◌≢◌, ◌↔◌}
-use mathlib.Core.Bool.{Bool, true, false, cond, not, ◌&&◌, ◌||◌, and-false, true≢false}
+use mathlib.Core.Bool.{true, false, and-false, true≢false}
 use mathlib.Core.List.{List, [], ◌∷◌, ◌++◌}
 use Prim.Native.Nat.{ℕ, zero, suc, ◌≤◌, ◌<◌}
 use native.Mathlib.Omega.{arith}
-use borrow.Author.Tests.{leb-true, ltb-true, ltb-false, le-ltb, lt-ltb, eq-eqb, ne_eqb}
+use borrow.Author.Tests.{leb-true, ltb-true, le-ltb, lt-ltb, eq-eqb, ne_eqb}
 use lib.Dec.{eqb, ltb, leb}
 use Rattle.refusals.specs.Rows.{Row, ◌when◌, first, number_at, cause_at, InTurn, proper, rising, under, caused, lower, unless}
 use Rattle.lists.proofs.Cases.{eq_or, lt_or}

@@ -11,8 +11,7 @@ use crate::outcomes;
 use crate::outcomes::{Answer, CoveredAnswer};
 use coverage::Totals;
 
-#[unsafe(no_mangle)]
-pub extern "C" fn sf_representatives(
+pub fn sf_representatives(
     points: &[u32],
     cells: &[u32],
     crossing: &[u8],
@@ -27,8 +26,7 @@ pub extern "C" fn sf_representatives(
     ))
 }
 
-#[unsafe(no_mangle)]
-pub extern "C" fn sf_keep_cover(
+pub fn sf_keep_cover(
     c: f32,
     points: &[u32],
     cells: &[u32],
@@ -52,8 +50,7 @@ pub extern "C" fn sf_keep_cover(
     ))
 }
 
-#[unsafe(no_mangle)]
-pub extern "C" fn sf_keep_crust(
+pub fn sf_keep_crust(
     c: f32,
     points: &[u32],
     cells: &[u32],
@@ -67,20 +64,13 @@ pub extern "C" fn sf_keep_crust(
     outcomes::of_kept(keep::keep_crust(c, points, cells, crossing, kept_points, kept_cells, work))
 }
 
-#[unsafe(no_mangle)]
-pub extern "C" fn sf_components(
-    points: &[u32],
-    cells: &[u32],
-    numbers: &mut [u32],
-    work: &mut [u32],
-) -> Answer
+pub fn sf_components(points: &[u32], cells: &[u32], numbers: &mut [u32], work: &mut [u32]) -> Answer
     ensures { Called counted (λ a. ComponentsDone points.now cells.now numbers.old work.old a numbers.new work.new) result }
 {
     outcomes::of_counted(components::components(points, cells, numbers, work))
 }
 
-#[unsafe(no_mangle)]
-pub extern "C" fn sf_face_components(
+pub fn sf_face_components(
     points: &[u32],
     cells: &[u32],
     numbers: &mut [u32],
@@ -91,15 +81,13 @@ pub extern "C" fn sf_face_components(
     outcomes::of_counted(pieces::face_components(points, cells, numbers, work))
 }
 
-#[unsafe(no_mangle)]
-pub extern "C" fn sf_one_piece(points: &[u32], cells: &[u32], work: &mut [u32]) -> Answer
+pub fn sf_one_piece(points: &[u32], cells: &[u32], work: &mut [u32]) -> Answer
     ensures { Called piece (λ a. OnePieceDone points.now cells.now work.old a work.new) result }
 {
     outcomes::of_one_piece(pieces::one_piece(points, cells, work))
 }
 
-#[unsafe(no_mangle)]
-pub extern "C" fn sf_marks(
+pub fn sf_marks(
     c: f32,
     points: &[u32],
     cells: &[u32],
@@ -113,8 +101,7 @@ pub extern "C" fn sf_marks(
     outcomes::of_told(marks::marks(c, points, cells, crossing, probe, marks, work))
 }
 
-#[unsafe(no_mangle)]
-pub extern "C" fn sf_add_coverage(
+pub fn sf_add_coverage(
     totals: Totals,
     triples: &[u32],
     cells: &[u32],

@@ -9,28 +9,19 @@ use crate::outcomes;
 use crate::outcomes::{Answer, PlanAnswer};
 use plan::{Bounds, Plan};
 
-#[unsafe(no_mangle)]
-pub extern "C" fn sf_plan(b: Bounds, c: f32, levels: u32) -> PlanAnswer
+pub fn sf_plan(b: Bounds, c: f32, levels: u32) -> PlanAnswer
     ensures { Called planned (λ a. a ≡ plan_of b c levels) result }
 {
     outcomes::of_plan(Plan::new(b, c, levels))
 }
 
-#[unsafe(no_mangle)]
-pub extern "C" fn sf_refine(
-    b: Bounds,
-    c: f32,
-    levels: u32,
-    crossing: &[u8],
-    split: &mut [u8],
-) -> Answer
+pub fn sf_refine(b: Bounds, c: f32, levels: u32, crossing: &[u8], split: &mut [u8]) -> Answer
     ensures { Called refined (λ a. RefineDone b c levels crossing.now split.old a split.new) result }
 {
     outcomes::of_refine(refine::refine(b, c, levels, crossing, split))
 }
 
-#[unsafe(no_mangle)]
-pub extern "C" fn sf_grid(
+pub fn sf_grid(
     b: Bounds,
     c: f32,
     levels: u32,

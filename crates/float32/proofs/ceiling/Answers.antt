@@ -1,4 +1,4 @@
-use Rattle.std.proofs.Common.{ℕ, ◌+◌, ◌^◌, ◌≤◌, ◌<◌, arith, le→leb, below_more}
+use Rattle.std.proofs.Common.{ℕ, ◌+◌, ◌^◌, ◌≤◌, arith, le→leb, below_more}
 use lib.Ieee.{in_float}
 use Rattle.float32.proofs.Wholes.{stays, exceeds}
 use Rattle.float32.proofs.Theorems.{first_is}

@@ -1,5 +1,4 @@
 use mathlib.Core.Path.{refl, sym, ◌∙◌}
-use mathlib.Core.Bool.{false}
 use native.Mathlib.Omega.{arith}
 use Rattle.words.specs.Words.{word_at}
 use Rattle.words.proofs.Turns.{are_not, are_still, are_all}

@@ -1,0 +1,45 @@
+// Plans, octrees and grids.
+ghost use Rattle.std.specs.Prelude.{◌≡◌};
+ghost use Rattle.plan.specs.Step.{plan_of};
+ghost use Rattle.refine.specs.Step.{RefineDone};
+ghost use Rattle.grid.specs.Step.{GridDone};
+ghost use Rattle.sporeferry.specs.Calls.{Called, planned, refined, gridded};
+
+use plan::Bounds;
+use sporeferry::{Answer, PlanAnswer};
+
+#[unsafe(no_mangle)]
+pub extern "C" fn sf_plan(b: Bounds, c: f32, levels: u32) -> PlanAnswer
+    ensures { Called planned (λ a. a ≡ plan_of b c levels) result }
+{
+    sporeferry::sf_plan(b, c, levels)
+}
+
+#[unsafe(no_mangle)]
+pub extern "C" fn sf_refine(
+    b: Bounds,
+    c: f32,
+    levels: u32,
+    crossing: &[u8],
+    split: &mut [u8],
+) -> Answer
+    ensures { Called refined (λ a. RefineDone b c levels crossing.now split.old a split.new) result }
+{
+    sporeferry::sf_refine(b, c, levels, crossing, split)
+}
+
+#[unsafe(no_mangle)]
+pub extern "C" fn sf_grid(
+    b: Bounds,
+    c: f32,
+    levels: u32,
+    split: &[u8],
+    cells: &mut [u32],
+    triples: &mut [u32],
+    points: &mut [u32],
+    work: &mut [u64],
+) -> Answer
+    ensures { Called gridded (λ a. GridDone b c levels split.now cells.old triples.old points.old work.old a cells.new triples.new points.new work.new) result }
+{
+    sporeferry::sf_grid(b, c, levels, split, cells, triples, points, work)
+}
