@@ -3,7 +3,7 @@ use mathlib.Core.Path.{◌≡◌, refl, ap, ◌∙◌}
 use mathlib.Core.Bool.{Bool, true, false, ◌||◌}
 use mathlib.Core.List.{List, [], ◌∷◌, ◌++◌}
 use mathlib.Core.Logic.{◌⊎◌, inl, inr, ⊎_elim}
-use Prim.Native.Nat.{ℕ, zero, suc, ◌+◌, ◌-◌, ◌*◌, ◌^◌, ◌≤◌, ◌<◌}
+use Prim.Native.Nat.{ℕ, zero, suc, ◌+◌, ◌*◌, ◌^◌, ◌≤◌, ◌<◌}
 use native.Mathlib.Omega.{arith}
 use native.Mathlib.Nat.{not-suc-le-zero, le_of_suc-le-suc}
 use lib.Dec.{leb}
@@ -18,7 +18,7 @@ use Rattle.octree_cells.proofs.LeafSome.{leaves_some, box_some}
 use Rattle.octree_cells.specs.Vertices.{leaf_points, names, marks}
 use Rattle.octree_cells.proofs.Vertices.{vertices}
 use Rattle.lists.proofs.Cases.{lt_or}
-use Rattle.vertex_keys.specs.Keys.{field, most_keys, Packs}
+use Rattle.vertex_keys.specs.Keys.{most_keys, Packs}
 use Rattle.vertex_keys.proofs.Packing.{key_small}
 use Rattle.sides.specs.Parts.{Taken}
 use Rattle.octree.specs.Parts.{roots_of, tree_of}

@@ -9,7 +9,6 @@ use lib.Seq.{sets, get_or-set_other, length-sets}
 use lib.Pow.{pow_mono}
 use Rattle.space.specs.Space.{Axis, ax, ay, az, Pos, pos}
 use Rattle.octants.specs.Oct.{width}
-use Rattle.octants.specs.Table.{read}
 use Rattle.octree_cells.specs.Cells.{corner, box_down, down}
 use Rattle.octree_cells.proofs.Points.{drawn_corner}
 use Rattle.octree_cells.specs.Leaf.{IsLeaf}

@@ -5,8 +5,7 @@ use Prim.Native.Nat.{ℕ, ◌+◌, ◌-◌, ◌*◌, ◌^◌, ◌≤◌, ◌<◌
 use native.Mathlib.Omega.{arith}
 use lib.ListN.{length, get_or}
 use Rattle.space.specs.Space.{Pos}
-use Rattle.octants.specs.Table.{read}
-use Rattle.octree_cells.specs.Cells.{cells, flat}
+use Rattle.octree_cells.specs.Cells.{flat}
 use Rattle.octree_cells.specs.Leaf.{IsLeaf}
 use Rattle.lists.specs.Runs.{run, Stored, Storing, Room}
 use Rattle.lists.proofs.Running.{loop_start, loop_next, loop_room, loop_done, storing_length}
@@ -21,7 +20,7 @@ use Rattle.octree_cells.proofs.Flat.{flat_length}
 use Rattle.face_cells.specs.Parts.{rank_in, leaf_numbers, AllTurn}
 use Rattle.face_cells.proofs.Link.{leaf_link, all_turn}
 use Rattle.leaf_cells.specs.Parts.{ListedIn, cells_of, low_in, number_in, Standing}
-use Rattle.leaf_cells.proofs.Leafwise.{listed, cells_by}
+use Rattle.leaf_cells.proofs.Leafwise.{cells_by}
 use Rattle.leaf_cells.proofs.Keys.{low_key_lem}
 
 -- ---- one leaf

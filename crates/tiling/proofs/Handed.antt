@@ -16,7 +16,6 @@ use Rattle.refusals.specs.Rows.{first}
 use Rattle.sorting.specs.Numbers.{distinct_sorted}
 use Rattle.sorting.proofs.Members.{distinct_short, same_distinct}
 use Rattle.plan.specs.Step.{plan_of}
-use Rattle.plan.specs.Vertices.{dims_of}
 use Rattle.plan.proofs.Ready.{ready, ready_levels}
 use Rattle.plan.specs.declared.Bounds.{Bounds}
 use Rattle.plan.specs.declared.Plan.{Plan}

@@ -4,7 +4,6 @@ use Rattle.sides.specs.Parts.{Taken}
 use Rattle.octree.specs.declared.Octant.{Octant}
 use mathlib.Core.List.{List}
 use Rattle.octree.specs.declared.Roots.{Roots}
-use mathlib.Core.Path.{◌≡◌}
 use Prim.Native.Nat.{ℕ, ◌<◌}
 use native.Mathlib.Omega.{arith}
 use Rattle.space.specs.Space.{ax, ay, az, Axis}
