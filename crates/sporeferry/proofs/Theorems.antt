@@ -1,28 +1,23 @@
 -- Two outcomes that the contract of a C function allows are equal: one law, from the step's own. Assumes nothing.
-use mathlib.Core.Path.{◌≡◌, sym, ap, subst, ◌∙◌}
+use mathlib.Core.Path.{◌≡◌, sym, subst, ◌∙◌}
 use mathlib.Core.List.{List}
 use Prim.Native.Nat.{ℕ}
 use lib.Ieee.{Float}
 use Rattle.lists.specs.Tables.{Determined}
-use Rattle.refusals.specs.declared.Counted.{Counted}
 use Rattle.plan.specs.declared.Bounds.{Bounds}
 use Rattle.plan.specs.declared.Plan.{Plan}
 use Rattle.plan.specs.declared.Planned.{Planned}
 use Rattle.plan.specs.Step.{plan_of}
-use Rattle.refine.specs.declared.Refined.{Refined}
 use Rattle.refine.specs.Step.{RefineDone}
 use Rattle.refine.proofs.Theorems.{refine_one}
-use Rattle.grid.specs.declared.Gridded.{Gridded}
 use Rattle.grid.specs.Step.{GridDone}
 use Rattle.grid.proofs.Theorems.{grid_one}
 use Rattle.representatives.specs.Step.{RepresentativesDone}
 use Rattle.representatives.proofs.Theorems.{representatives_one}
-use Rattle.marked.specs.declared.Kept.{Kept}
 use Rattle.keep.specs.Step.{KeepDone, cover_of, cover_cells, crust_of, crust_cells}
 use Rattle.keep.proofs.Theorems.{cover_one, crust_one}
 use Rattle.components.specs.Step.{ComponentsDone}
 use Rattle.components.proofs.Theorems.{components_one}
-use Rattle.pieces.specs.declared.OnePiece.{OnePiece}
 use Rattle.pieces.specs.Step.{FaceComponentsDone, OnePieceDone}
 use Rattle.pieces.proofs.Theorems.{face_components_one, one_piece_one}
 use Rattle.refusals.specs.Rows.{Row}
@@ -40,7 +35,6 @@ use Rattle.coverage.specs.Step.{CoverageDone}
 use Rattle.coverage.proofs.Theorems.{coverage_one}
 use Rattle.sporeferry.specs.Calls.{Called, Tells, TellsPlan, TellsTotals, planned, refined, gridded, counted, piece, kept, told, covered, loaded}
 use Rattle.sporeferry.specs.declared.outcomes.Answer.{Answer}
-use Rattle.sporeferry.specs.declared.outcomes.PlanAnswer.{PlanAnswer}
 
 -- where a step allows one outcome, and an outcome is told in one way, C finds one answer and one set of tables
 pub called_one : {A B T : Type 0} {tells : A → B → Type 0} (done : A → T → Type 0) → ((a : A) → Determined (tells a))
