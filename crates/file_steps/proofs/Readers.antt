@@ -1,28 +1,26 @@
 -- The ways out of a reader, whatever its format. Assumes nothing.
 use mathlib.Core.Path.{◌≡◌, refl, sym, ap, subst, ◌∙◌}
-use mathlib.Core.Logic.{◌⊎◌, inl, inr, ◌≢◌}
+use mathlib.Core.Logic.{◌≢◌}
 use mathlib.Core.Bool.{Bool, true, false, cond}
 use mathlib.Core.List.{List, [], ◌∷◌, ◌++◌, append_assoc}
-use Prim.Native.Nat.{ℕ, ◌*◌, ◌/◌, ◌≤◌, ◌<◌}
+use Prim.Native.Nat.{ℕ, ◌*◌, ◌/◌, ◌≤◌}
 use native.Mathlib.Omega.{arith}
-use borrow.Author.Tests.{lt-ltb, le-ltb, ltb-false, not-false}
+use borrow.Author.Tests.{le-ltb, ltb-false}
 use lib.Dec.{ltb}
 use lib.ListN.{length, take, drop, replicate}
 use lib.Seq.{length-take-le}
-use Rattle.lists.specs.Tables.{front, zeroed, on}
-use Rattle.lists.proofs.Cases.{lt_or}
 use Rattle.lists.proofs.Lent.{below_at, as_lent, as_new}
 use Rattle.refusals.specs.Rows.{Row, first, proper}
 use Rattle.refusals.specs.Causes.{room_rows}
 use Rattle.refusals.proofs.Rows.{clear, stops, goes_on, front_clear, rest_clear}
 use Rattle.refusals.proofs.Causes.{room_fits}
-use Rattle.mesh.specs.Mesh.{most, cells_of, Cells}
-use Rattle.mesh.specs.Judged.{count_rows, name_rows}
+use Rattle.mesh.specs.Mesh.{most, Cells}
+use Rattle.mesh.specs.Judged.{count_rows}
 use Rattle.mesh.proofs.Unrefused.{names_fit}
 use Rattle.words.specs.Words.{words_at}
 use Rattle.words.specs.Parts.{WordsThere}
 use Rattle.components.specs.Parts.{Fits}
-use Rattle.file_components.specs.Blocks.{points_in, cells_in, right_numbers}
+use Rattle.file_components.specs.Blocks.{points_in, cells_in}
 use Rattle.file_components.specs.Parts.{Stands, Told}
 use Rattle.file_components.specs.declared.Blocks.{Blocks}
 use Rattle.file_steps.specs.Loaded.{loaded_by}

@@ -1,8 +1,7 @@
 -- Sections that are there, and those that are not. Assumes nothing.
 use mathlib.Core.Path.{◌≡◌, refl, sym, ap, ◌∙◌}
-use mathlib.Core.Logic.{◌⊎◌, inl, inr}
-use mathlib.Core.Bool.{true, false, ◌||◌}
-use mathlib.Core.List.{List, ◌++◌}
+use mathlib.Core.Bool.{true, false}
+use mathlib.Core.List.{List}
 use Prim.Native.Nat.{ℕ, ◌+◌, ◌-◌, ◌*◌, ◌/◌, ◌≤◌, ◌<◌, min}
 use native.Mathlib.Nat.{mul-le-mul, le-div_iff_mul-le, min-eq_left, min-eq_right}
 use native.Mathlib.Omega.{arith}

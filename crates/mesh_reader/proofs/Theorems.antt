@@ -3,29 +3,28 @@
 use mathlib.Core.Path.{◌≡◌, refl, sym, ap, ap₂, subst, subst₂, ◌∙◌}
 use mathlib.Core.Bool.{true}
 use mathlib.Core.List.{List}
-use Prim.Native.Nat.{ℕ, ◌*◌, ◌/◌, ◌≤◌, ◌<◌}
+use Prim.Native.Nat.{ℕ, ◌*◌}
 use native.Mathlib.Omega.{arith}
-use lib.ListN.{length, get_or, take}
+use lib.ListN.{length, take}
 use Rattle.lists.specs.Tables.{all_below, same}
 use Rattle.lists.proofs.Lent.{all_below_lem}
 use Rattle.lists.proofs.Listing.{same_eq, same_refl}
 use Rattle.refusals.specs.Rows.{first}
 use Rattle.refusals.specs.declared.Counted.TheVariants as counted
 use Rattle.refusals.proofs.Rows.{goes_on}
-use Rattle.mesh.specs.Mesh.{most, points_of, cells_of, Cells}
-use Rattle.words.proofs.Words.{length_words, length_cells}
+use Rattle.mesh.specs.Mesh.{points_of, cells_of, Cells}
+use Rattle.words.proofs.Words.{length_words}
 use Rattle.components.specs.Numbers.{component_numbers}
 use Rattle.components.proofs.Patterns.{length_components}
-use Rattle.file_components.specs.Blocks.{points_in, cells_in, numbers_in, right_numbers}
+use Rattle.file_components.specs.Blocks.{points_in, cells_in, numbers_in}
 use Rattle.file_components.proofs.Comparing.{cells_in_lem}
 use Rattle.file_components.proofs.Small.{numbers_small}
-use Rattle.file_steps.specs.Reader.{content_rows}
 use Rattle.file_steps.specs.Meshes.{Mesh, Room, Back}
 use Rattle.file_steps.specs.declared.Loaded.{Loaded}
 use Rattle.file_steps.specs.declared.Loaded.TheVariants as loaded
 use Rattle.file_steps.proofs.Theorems.{Says, contents_clear, Answered, reads_mesh, read_answered, taken, file_left, mesh_in}
 use Rattle.mesh_layout.specs.Layout.{encode, mesh_file, blocks_of}
-use Rattle.mesh_layout.proofs.There.{Holds, Found, encode_found}
+use Rattle.mesh_layout.proofs.There.{Found, encode_found}
 use Rattle.mesh_layout.proofs.Sound.{laid_encodes}
 use Rattle.mesh_writer.specs.Step.{bytes_for, WriteDone}
 use Rattle.mesh_writer.proofs.Writing.{length_file}

@@ -1,10 +1,10 @@
 -- The sections that `write_mesh` stores one behind the other. Assumes nothing.
 use mathlib.Core.Path.{◌≡◌, refl, sym, ap, ◌∙◌}
 use mathlib.Core.Bool.{false}
-use mathlib.Core.List.{List, ◌++◌, append_assoc}
+use mathlib.Core.List.{List, append_assoc}
 use Prim.Native.Nat.{ℕ, ◌+◌, ◌*◌, ◌/◌}
 use native.Mathlib.Omega.{arith}
-use lib.ListN.{length, replicate, length-append}
+use lib.ListN.{length, replicate}
 use lib.Seq.{sets}
 use Rattle.lists.specs.Runs.{Stored}
 use Rattle.lists.proofs.Parts.{sets_whole}

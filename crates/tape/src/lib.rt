@@ -28,8 +28,8 @@ pub const BYTES: usize = 262_144;
 
 // The tape in words.
 pub fn unpacked(bytes: &[u8; BYTES]) -> [u32; 65_536]
-    ensures value { 65536 ≡ length result }
-    ensures value_2 { result ≡ words_at false bytes.now 0 65536 }
+    ensures size { 65536 ≡ length result }
+    ensures entries { result ≡ words_at false bytes.now 0 65536 }
 {
     let mut tape = [0u32; 65_536];
     words::get_words(bytes, 0, false, &mut tape);

@@ -20,13 +20,12 @@ use Rattle.decimal.proofs.Texts.{Missing, text_cut, text_found, number_low, eith
 use Rattle.decimal.proofs.Counts.{count_cut, count_went, count_either_way}
 use Rattle.vtk_layout.specs.Texts.{feed, space, version_line, dataset_lines, float_line, cells_word, types_word, data_word, scalar_lines}
 use Rattle.vtk_layout.specs.Layout.{no_feed, is_title, written, title_at, block_at, line_at, section_at, counted_at, head_of, end_at, numbers_on, types_on, cells_on, points_on, located_of}
-use Rattle.vtk_layout.specs.declared.Layout.{Layout}
 use Rattle.vtk_layout.specs.declared.Located.{Located}
 use Rattle.vtk_layout.specs.declared.Located.TheVariants as located
 use Rattle.vtk_layout.proofs.Parts.{title_feed, title_next, no_feed_lem, block_there, line_in, head_small}
 use Rattle.vtk_layout.proofs.There.{Whole, standing_whole, stands}
 use Rattle.vtk_layout.proofs.Front.{stop_is, found_never, found_front}
-use Rattle.vtk_layout.proofs.Sound.{TitleHere, title_found, line_found, counted_found, HeadHere, head_found, joined, joined_on}
+use Rattle.vtk_layout.proofs.Sound.{TitleHere, title_found, line_found, counted_found, head_found, joined, joined_on}
 
 -- ---- bytes that go on to what is right
 

@@ -1,5 +1,5 @@
 -- The texts of the viewer's file, set out once for writer and reader.
-use Rattle.std.specs.Prelude.{List, ◌++◌, ℕ}
+use Rattle.std.specs.Prelude.{List, ℕ}
 use Rattle.decimal.specs.Text.{text_of}
 
 -- the first line; the title line follows

@@ -12,7 +12,7 @@ use Rattle.lists.specs.Tables.{all_below, list_of, same}
 use Rattle.lists.proofs.Cases.{eq_or}
 use Rattle.lists.proofs.Lent.{all_below_lem}
 use Rattle.lists.proofs.Listing.{length_list, list_at, list_is, list_same, same_eq, same_refl}
-use Rattle.mesh.specs.Mesh.{most, points_of, cells_of, Cells}
+use Rattle.mesh.specs.Mesh.{cells_of, Cells}
 use Rattle.words.specs.Words.{bytes_of, word_at, words_at, cells_at}
 use Rattle.words.proofs.Words.{words_at_lem, length_cells, vertex_at, words_there}
 use Rattle.vtk_layout.specs.File.{led_word, led}

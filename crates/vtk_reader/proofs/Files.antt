@@ -2,11 +2,11 @@
 use mathlib.Core.Path.{◌≡◌, refl, sym, ap, subst, ◌∙◌}
 use mathlib.Core.Logic.{◌⊎◌, inl, inr, ◌≢◌}
 use mathlib.Core.Bool.{true}
-use mathlib.Core.List.{List, [], ◌++◌}
-use Prim.Native.Nat.{ℕ, ◌+◌, ◌*◌}
+use mathlib.Core.List.{List, []}
+use Prim.Native.Nat.{ℕ}
 use native.Mathlib.Omega.{arith}
 use borrow.Author.Tests.{not-false}
-use lib.ListN.{length, replicate}
+use lib.ListN.{replicate}
 use Rattle.lists.specs.Tables.{same}
 use Rattle.refusals.specs.Rows.{first, proper}
 use Rattle.refusals.proofs.Rows.{clear, front_clear, rest_clear}

@@ -3,11 +3,11 @@
 use mathlib.Core.Path.{◌≡◌, refl, sym, ap, ap₂, subst, subst₂, ◌∙◌}
 use mathlib.Core.Bool.{Bool, true, false, not, ◌&&◌}
 use mathlib.Core.List.{List, [], ◌∷◌, ◌++◌}
-use Prim.Native.Nat.{ℕ, ◌+◌, ◌*◌, ◌/◌, ◌≤◌, ◌<◌}
+use Prim.Native.Nat.{ℕ, ◌+◌, ◌*◌, ◌≤◌, ◌<◌}
 use native.Mathlib.Omega.{arith}
 use borrow.Author.Tests.{eqb-false, not-true}
 use lib.Dec.{eqb, leb}
-use lib.ListN.{length, get_or, take, drop, replicate, length-replicate, get_or-replicate}
+use lib.ListN.{length, take, drop, replicate, length-replicate, get_or-replicate}
 use lib.Seq.{drop-append_seam}
 use Rattle.lists.specs.Tables.{all_below, same, among}
 use Rattle.lists.proofs.Bools.{and_left, and_right}
@@ -16,8 +16,8 @@ use Rattle.lists.proofs.Listing.{same_eq, same_refl}
 use Rattle.refusals.specs.Rows.{Row, ◌when◌, first}
 use Rattle.refusals.specs.Causes.{room_rows}
 use Rattle.refusals.specs.declared.Counted.TheVariants as counted
-use Rattle.refusals.proofs.Rows.{goes_on, front_clear, rest_clear}
-use Rattle.mesh.specs.Mesh.{most, points_of, cells_of, Cells}
+use Rattle.refusals.proofs.Rows.{goes_on}
+use Rattle.mesh.specs.Mesh.{points_of, cells_of}
 use Rattle.mesh.specs.Judged.{count_rows, name_rows}
 use Rattle.words.specs.Words.{bytes_of, words_at, cells_at}
 use Rattle.words.proofs.Words.{length_bytes, length_words, words_bytes}

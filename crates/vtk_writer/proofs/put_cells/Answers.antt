@@ -1,4 +1,3 @@
-use mathlib.Core.Bool.{true}
 use native.Mathlib.Omega.{arith}
 use Rattle.words.proofs.Turns.{writing_start, writing_done}
 use Rattle.vtk_writer.proofs.Writing.{length_led, cells_on}
