@@ -20,7 +20,7 @@ root = args[0] if args else '.'
 NAME = r"[^\s(){}.;,@\"«»]+"
 HEAD = re.compile(r"^(\s*)(?:abbrev |unfoldable |opaque )*(?:pub )?(" + NAME + r") :(?: |$)")
 TYPE = re.compile(r"^\s*(?:abbrev |unfoldable |opaque )*(?:pub )?(?:record|data|module|mod) (" + NAME + ")")
-# names that the rule below does not turn: a record, and laws that port.py had in snake case already and that would fall together with a definition: in these folders alone
+# names that the rule below does not turn: a record, a law whose type stands on the next line, and laws that port.py had in snake case already and that would fall together with a definition: in these folders alone
 THERE = {
     'is_leaf': ('is_leaf_lem', ['octants/proofs/Rounds.antt', 'octree_cells/proofs/OneLeaf.antt', 'octree_cells/proofs/Shell.antt']),
     'numbers_after': ('numbers_after_lem', ['components/specs/Example.antt', 'pieces/specs/Example.antt', 'representatives/specs/Example.antt']),
@@ -28,6 +28,7 @@ THERE = {
     'read_number': ('read_number_lem', ['file_steps/proofs/Theorems.antt', 'vtk_reader/proofs/']),
     'too_fine': ('too_fine_lem', ['octree_cells/proofs/Shell.antt']),
     'Located-at': ('LocatedAt', ['vtk_reader/proofs/Theorems.antt']),
+    'sf-keep-crust-one': ('sf_keep_crust_one', ['sporeferry/proofs/Theorems.antt']),
     'is_digit': ('is_digit_lem', ['decimal/proofs/Counts.antt']),
 }
 # names that would fall together: old -> new

@@ -138,11 +138,11 @@ module _ (P C : List ℕ) where
     sf_keep_cover_one Q =
         called_three (KeepDone (cover_of c P C X Q p q w) P C (cover_cells c P C X Q) p q w) (λ a. tells_one _ _) (cover_one c P C X Q p q w)
 
-    pub sf-keep-crust-one
+    pub sf_keep_crust_one
         : Determined
         (λ (z : Answer × List ℕ × List ℕ × List ℕ).
         Called kept (λ a. KeepDone (crust_of c P C X p q w) P C (crust_cells c P C X) p q w a z.1 z.2 z.3) z.0)
-    sf-keep-crust-one = called_three (KeepDone (crust_of c P C X p q w) P C (crust_cells c P C X) p q w) (λ a. tells_one _ _) (crust_one c P C X p q w)
+    sf_keep_crust_one = called_three (KeepDone (crust_of c P C X p q w) P C (crust_cells c P C X) p q w) (λ a. tells_one _ _) (crust_one c P C X p q w)
 
   pub sf_marks_one : (c : Float) (X Q o w : List ℕ)
       → Determined (λ (z : Answer × List ℕ × List ℕ). Called told (λ a. MarksDone c P C X Q o w a z.1 z.2) z.0)
