@@ -5,120 +5,135 @@ usage: tools/respell.py [--check] [--table FILE] [ROOT]
 
 Run once, after the port of the toolchain, over crates/: .antt files whole, the clauses and ghost items of .rt files, the texts of must-fail edits.
 Types, modules and records keep their camel case. Names of Rust, of the libraries and of what the toolchain generates stay. A law that would get
-the name of a definition, or of another law that came by it first, ends in _lem. --check writes nothing and lists what would fall together.
---table writes the rows OLD NEW that were turned.
+the name of a definition, or of another law that came by it first, ends in _lem: respell.tsv beside this script has these, and THERE below.
+--check writes nothing and lists what would fall together; --table writes the rows OLD NEW that were turned.
 """
-import os, re, sys
+import argparse
+import os
+import re
 from collections import defaultdict
 
-check = '--check' in sys.argv
-args = [a for a in sys.argv[1:] if a != '--check']
-table = None
-if '--table' in args:
-    i = args.index('--table'); table = args[i + 1]; del args[i:i + 2]
-root = args[0] if args else '.'
-NAME = r"[^\s(){}.;,@\"«»]+"
-HEAD = re.compile(r"^(\s*)(?:abbrev |unfoldable |opaque )*(?:pub )?(" + NAME + r") :(?: |$)")
-TYPE = re.compile(r"^\s*(?:abbrev |unfoldable |opaque )*(?:pub )?(?:record|data|module|mod) (" + NAME + ")")
-# names that the rule below does not turn: a record, a law whose type stands on the next line, and laws that port.py had in snake case already and that would fall together with a definition: in these folders alone
+NAME = r"[^\s(){}.;,@\"«»`]+"
+HEAD = re.compile(r"^(?:\s*)(?:abbrev |unfoldable |opaque )*(?:pub )?(" + NAME + r") :(?: |$)")
+TYPE = re.compile(r"^\s*(?:abbrev |unfoldable |opaque )*(?:pub )?(?:record|data|module|mod) ")
+USE = re.compile(r"^\s*(?:pub |ghost )*use ([^\s;{]+?)\.?\{([^}]*)\}", re.M)
+QUIET = r"//[^\n]*|\"(?:[^\"\\\n]|\\.)*\"|«[^»]*»|"
+# What the rule does not turn, in these files alone: a record; a law whose type stands on the next line; laws that the kit's script had in
+# snake case already and that would fall together with a definition.
 THERE = {
+    'Located-at': ('LocatedAt', ['vtk_reader/proofs/Theorems.antt']),
+    'sf-keep-crust-one': ('sf_keep_crust_one', ['sporeferry/proofs/Theorems.antt']),
     'is_leaf': ('is_leaf_lem', ['octants/proofs/Rounds.antt', 'octree_cells/proofs/OneLeaf.antt', 'octree_cells/proofs/Shell.antt']),
     'numbers_after': ('numbers_after_lem', ['components/specs/Example.antt', 'pieces/specs/Example.antt', 'representatives/specs/Example.antt']),
     'in_order': ('in_order_lem', ['marked/proofs/Theorems.antt']),
     'read_number': ('read_number_lem', ['file_steps/proofs/Theorems.antt', 'vtk_reader/proofs/']),
     'too_fine': ('too_fine_lem', ['octree_cells/proofs/Shell.antt']),
-    'Located-at': ('LocatedAt', ['vtk_reader/proofs/Theorems.antt']),
-    'sf-keep-crust-one': ('sf_keep_crust_one', ['sporeferry/proofs/Theorems.antt']),
     'is_digit': ('is_digit_lem', ['decimal/proofs/Counts.antt']),
 }
-# names that would fall together: old -> new
-BY_HAND = {}
-if os.path.exists(os.path.join(os.path.dirname(os.path.realpath(__file__)), 'respell.tsv')):
-    for l in open(os.path.join(os.path.dirname(os.path.realpath(__file__)), 'respell.tsv'), encoding='utf-8'):
-        if l.strip():
-            a, b = l.split(); BY_HAND[a] = b
 
-def snake(name):
-    if name in BY_HAND:
-        return BY_HAND[name]
-    words = re.sub(r"(?<=[a-z0-9₀-₉])[A-Z]", lambda m: '_' + m[0].lower(), name)
-    return re.sub(r"-+", '_', words)
 
-def turns(name):
-    return bool(re.match(r"[a-z0-9]", name)) and ('-' in name or bool(re.search(r"[a-z0-9][A-Z]", name))) and bool(re.fullmatch(r"[\w'-]+", name))
+def read(path):
+    with open(path, encoding='utf-8') as f:
+        return f.read()
 
-files = []
-for d, ds, fs in os.walk(os.path.join(root, 'crates')):
-    ds[:] = sorted(x for x in ds if x != 'out')
-    files += [os.path.join(d, f) for f in sorted(fs) if f.endswith(('.antt', '.rt', '.edit'))]
-text = {f: open(f, encoding='utf-8').read() for f in files}
 
-own, where = set(), defaultdict(list)     # declared names, and the files that declare each
-for f in files:
-    if not f.endswith('.antt') or f.endswith('/Proof.antt'):
-        continue
-    for line in text[f].split('\n'):
-        if line.strip().startswith('--'):
-            continue
-        m = HEAD.match(line)
-        if m and not TYPE.match(line):
-            own.add(m.group(2)); where[m.group(2)].append((f, len(m.group(1))))
-lib = defaultdict(set)                     # file -> names that it imports from a library
-USE = re.compile(r"^\s*(?:pub |ghost )*use ([^\s;{]+?)\.?\{([^}]*)\}", re.M)
-crates = set(os.listdir(os.path.join(root, 'crates')))
-for f in files:
-    for m in USE.finditer(text[f]):
-        path = m.group(1)
-        ours = path.startswith('Rattle.') and path.split('.')[1] in crates
-        if not ours:
-            lib[f] |= {w.split(' as ')[-1].strip() for w in m.group(2).split(',')}
-rows = {n: snake(n) for n in own if turns(n)}
-by_new = defaultdict(set)
-for n in own:
-    by_new[rows.get(n, n)].add(n)
-clash = {new: olds for new, olds in by_new.items() if len(olds) > 1}
-if check:
-    for new, olds in sorted(clash.items()):
-        print('together', new, {o: sorted({os.path.relpath(f, root).replace('crates/', '') + ('' if not k else ':%d' % k) for f, k in where[o]})[:6] for o in sorted(olds)})
-    for f in files:
-        both = {n for n in lib[f] if n in rows}
-        if both: print('also a library\'s, in', f, both)
-        words = set(re.findall(NAME, text[f]))
-        met = {rows[n] for n in words if n in rows} & lib[f]
-        if met: print('meets a library\'s, in', f, met)
-    print(len(rows), 'names turn')
+def sources(root):
+    """Every file that is looked at, with its text."""
+    out = {}
+    for folder, below, names in os.walk(os.path.join(root, 'crates')):
+        below[:] = sorted(b for b in below if b != 'out')
+        for name in sorted(names):
+            if name.endswith(('.antt', '.rt', '.edit')):
+                out[os.path.join(folder, name)] = read(os.path.join(folder, name))
+    return out
 
-TOKEN = re.compile(r"--[^\n]*|//[^\n]*|\"(?:[^\"\\\n]|\\.)*\"|«[^»]*»|" + NAME)
-RTTOKEN = re.compile(r"//[^\n]*|\"(?:[^\"\\\n]|\\.)*\"|«[^»]*»|" + NAME)
 
-def turn(f, t):
-    skip = lib[f]
-    local = f.endswith('/Proof.antt')
-    def word(w):
-        if w in THERE and any('crates/' + p in f for p in THERE[w][1]):
-            return THERE[w][0]
-        if w in rows and w not in skip:
-            return rows[w]
-        return w
-    def go(m):
+def declared(text):
+    """The names that .antt files declare, walks aside, and the files that declare each."""
+    out = defaultdict(set)
+    for path in text:
+        if path.endswith('.antt') and not path.endswith('/Proof.antt'):
+            for line in text[path].split('\n'):
+                found = HEAD.match(line)
+                if found and not TYPE.match(line) and not line.strip().startswith('--'):
+                    out[found.group(1)].add(path)
+    return out
+
+
+def imported(text, crates):
+    """For each file the names that it takes from a library, which stay there."""
+    out = defaultdict(set)
+    for path in text:
+        for module, names in USE.findall(text[path]):
+            if not (module.startswith('Rattle.') and module.split('.')[1] in crates):
+                out[path].update(n.split(' as ')[-1].strip() for n in names.split(','))
+    return out
+
+
+def spelled(own):
+    """The rows: each name that turns, with what it turns to."""
+    by_hand = dict(line.split() for line in read(os.path.join(os.path.dirname(os.path.realpath(__file__)), 'respell.tsv')).splitlines() if line)
+    turns = [n for n in own if re.fullmatch(r"[a-z0-9][\w'-]*", n) and re.search(r"-|[a-z0-9][A-Z]", n)]
+    words = {n: re.sub(r"(?<=[a-z0-9₀-₉])[A-Z]", lambda m: '_' + m[0].lower(), n) for n in turns}
+    return {n: by_hand.get(n, re.sub('-+', '_', words[n])) for n in turns}
+
+
+def turned(path, text, rows, stay):
+    """The text of a file with its names turned; in comments only what stands in backquotes or in camel case."""
+    def word(m):
         w = m.group(0)
-        if w.startswith('--') or w.startswith('//'):
-            w = re.sub(r"`([^`]+)`", lambda k: '`' + re.sub(NAME, lambda q: word(q.group(0)), k.group(1)) + '`', w)
-            return re.sub(r"(?<![\w-])[a-z][a-z0-9]*[A-Z]\w*(?![\w-])", lambda q: word(q.group(0)), w)
-        if w.startswith('"'):
-            return w
-        if w.startswith('«'):
-            return w
-        return word(w)
-    return (RTTOKEN if f.endswith(('.rt', '.edit')) else TOKEN).sub(go, t)
+        if w in THERE and any('crates/' + p in path for p in THERE[w][1]):
+            return THERE[w][0]
+        return rows[w] if w in rows and w not in stay else w
 
-if not check:
-    n = 0
-    for f in files:
-        new = turn(f, text[f])
-        if new != text[f]:
-            open(f, 'w', encoding='utf-8').write(new); n += 1
-    print(len(rows), 'names,', n, 'files')
-    if table:
-        with open(table, 'w', encoding='utf-8') as o:
-            for a in sorted(rows): o.write('%s\t%s\n' % (a, rows[a]))
+    def part(m):
+        w = m.group(0)
+        if w.startswith(('"', '«')):
+            return w
+        if w.startswith(('--', '//')):
+            w = re.sub(r"`[^`]+`", lambda k: re.sub(NAME, word, k.group(0)), w)
+            return re.sub(r"(?<![\w-])[a-z][a-z0-9]*[A-Z]\w*(?![\w-])", word, w)
+        return word(m)
+
+    comment = '' if path.endswith(('.rt', '.edit')) else r"--[^\n]*|"
+    return re.sub(comment + QUIET + NAME, part, text)
+
+
+def told(root, text, own, rows, libraries):
+    """What would fall together: own names with one another, and with a library's."""
+    by_new = defaultdict(set)
+    for name in own:
+        by_new[rows.get(name, name)].add(name)
+    for new, olds in sorted(by_new.items()):
+        if len(olds) > 1:
+            print('together:', new, {o: sorted(os.path.relpath(p, root) for p in own[o])[:6] for o in sorted(olds)})
+    for path in text:
+        met = {rows[w] for w in set(re.findall(NAME, text[path])) if w in rows} & libraries[path] | {n for n in libraries[path] if n in rows}
+        if met:
+            print('a library\'s too, in', path, sorted(met))
+
+
+def main():
+    asked = argparse.ArgumentParser()
+    asked.add_argument('--check', action='store_true')
+    asked.add_argument('--table')
+    asked.add_argument('root', nargs='?', default='.')
+    asked = asked.parse_args()
+    text = sources(asked.root)
+    own = declared(text)
+    libraries = imported(text, set(os.listdir(os.path.join(asked.root, 'crates'))))
+    rows = spelled(own)
+    if asked.check:
+        told(asked.root, text, own, rows, libraries)
+        return
+    changed = {p: t for p, t in ((p, turned(p, text[p], rows, libraries[p])) for p in text) if t != text[p]}
+    for path, new in changed.items():
+        with open(path, 'w', encoding='utf-8') as f:
+            f.write(new)
+    if asked.table:
+        with open(asked.table, 'w', encoding='utf-8') as f:
+            f.writelines('%s\t%s\n' % row for row in sorted(rows.items()))
+    print(len(rows), 'names,', len(changed), 'files')
+
+
+main()

@@ -1,5 +1,5 @@
 -- Six roots an axis, none of them crossed: none is split; the cells and vertices of that octree. The cells are counted by computation; the distinct keys of their vertices
--- are those of nine points a leaf (same-vertices), which are sorted and counted by computation.
+-- are those of nine points a leaf (same_vertices), which are sorted and counted by computation.
 use mathlib.Core.Path.{◌≡◌, refl, ap, sym, ◌∙◌, fun_ext}
 use mathlib.Core.Bool.{false}
 use Prim.Native.Nat.{ℕ, zero, suc, ◌+◌, ◌-◌, ◌≤◌}
