@@ -11,6 +11,7 @@ use Rattle.lists.specs.Tables.{all_below}
 use Rattle.lists.proofs.Lent.{below_at, all_below_lem}
 use Rattle.refusals.specs.Rows.{first, proper}
 use Rattle.refusals.specs.Causes.{work_rows}
+use Rattle.refusals.specs.Refusals.{as_refusal, named}
 use Rattle.refusals.proofs.Rows.{clear, front_clear, rest_clear}
 use Rattle.mesh.specs.Mesh.{most, Cells}
 use Rattle.mesh.specs.Judged.{count_rows, whole_rows, need_of, size_rows, name_rows, mesh_rows}
@@ -34,6 +35,10 @@ module _ (p c room a b : ℕ) where
   unfolding proper size_rows count_rows whole_rows work_rows
   sizes_proper = refl
 
+  pub sizes_named : named (size_rows p c room a b) ≡ true
+  unfolding named as_refusal size_rows count_rows whole_rows work_rows
+  sizes_named = refl
+
   pub sizes_fit : first (size_rows p c room a b) ≡ 0 → Sizes p c room a b
   unfolding first proper size_rows count_rows whole_rows work_rows
   sizes_fit e =
@@ -56,6 +61,10 @@ module _ (p : ℕ) (C : List ℕ) (room a b : ℕ) where
   pub mesh_proper : proper (mesh_rows p C room a b) ≡ true
   unfolding proper mesh_rows name_rows size_rows count_rows whole_rows work_rows
   mesh_proper = refl
+
+  pub mesh_named : named (mesh_rows p C room a b) ≡ true
+  unfolding named as_refusal mesh_rows name_rows size_rows count_rows whole_rows work_rows
+  mesh_named = refl
 
   pub named_fit : Sizes p (length C) room a b → all_below (p / 3) C ≡ true → Fitting p C room a b
   named_fit s n = record {

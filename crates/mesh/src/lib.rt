@@ -3,8 +3,11 @@
 
 ghost use Rattle.std.specs.Prelude.{◌≡◌, ◌/◌, ◌≤◌, ◌<◌};
 ghost use Rattle.refusals.specs.Rows.{first};
+ghost use Rattle.refusals.specs.Refusals.{number_in};
 ghost use Rattle.mesh.specs.Mesh.{most, cells_of, cell_of};
 ghost use Rattle.mesh.specs.Judged.{size_rows, name_rows, mesh_rows};
+
+use refusals::Refusal;
 
 // The most points, and the most cells.
 pub const MOST: usize = 536_870_912;
@@ -24,56 +27,60 @@ pub fn cell_at(cells: &[u32], i: usize) -> Cell
     ensures { result ≡ cell_of cells.now i }
 {
     let at = 4 * i;
-    let a = lists::wide(cells[at]);
-    let b = lists::wide(cells[at + 1]);
-    let c = lists::wide(cells[at + 2]);
-    let d = lists::wide(cells[at + 3]);
-    Cell { a, b, c, d }
+    Cell {
+        a: cells[at] as usize,
+        b: cells[at + 1] as usize,
+        c: cells[at + 2] as usize,
+        d: cells[at + 3] as usize,
+    }
 }
 
-// The number that the lengths of the tables are refused with by a step that asks `a` work entries a cell and `b` a point, and has `room`
-// of them: 4, 5, or 0. `points` and `cells` are the lengths of the tables.
-pub fn judge_sizes(points: usize, cells: usize, room: usize, a: usize, b: usize) -> u32
+// What the lengths of the tables are refused with by a step that asks `a` work entries a cell and `b` a point, and has `room` of them: 4, 5,
+// or nothing. `points` and `cells` are the lengths of the tables.
+pub fn judge_sizes(
+    points: usize,
+    cells: usize,
+    room: usize,
+    a: usize,
+    b: usize,
+) -> Result<(), Refusal>
     requires { (a ≤ 16) × (b ≤ 2) }
-    ensures { result ≡ first (size_rows points cells room a b) }
+    ensures { number_in result ≡ first (size_rows points cells room a b) }
 {
     if MOST < points / 3 {
-        return 4;
+        return Err(Refusal::TooLarge);
     }
     if MOST < cells / 4 {
-        return 4;
+        return Err(Refusal::TooLarge);
     }
     if points % 3 != 0 {
-        return 5;
+        return Err(Refusal::Length);
     }
     if cells % 4 != 0 {
-        return 5;
+        return Err(Refusal::Length);
     }
     if room < a * (cells / 4) + b * (points / 3) {
-        return 5;
+        return Err(Refusal::Length);
     }
-    0
+    Ok(())
 }
 
-// The number that cells are refused with where `points` is the length of the table of points: 8 where a cell names one that is not there, or 0.
-pub fn judge_names(points: usize, cells: &[u32]) -> u32
+// What cells are refused with where `points` is the length of the table of points: 8 where a cell names one that is not there, or nothing.
+pub fn judge_names(points: usize, cells: &[u32]) -> Result<(), Refusal>
     requires { points / 3 ≤ most }
-    ensures { result ≡ first (name_rows (points / 3) cells.now) }
+    ensures { number_in result ≡ first (name_rows (points / 3) cells.now) }
 {
     if !lists::all_below(cells, (points / 3) as u32) {
-        return 8;
+        return Err(Refusal::Point);
     }
-    0
+    Ok(())
 }
 
-// The number that a mesh is refused with, as `judge_sizes` and then `judge_names` have it: 4, 5, 8, or 0.
-pub fn judge(points: usize, cells: &[u32], room: usize, a: usize, b: usize) -> u32
+// What a mesh is refused with, as `judge_sizes` and then `judge_names` have it: 4, 5, 8, or nothing.
+pub fn judge(points: usize, cells: &[u32], room: usize, a: usize, b: usize) -> Result<(), Refusal>
     requires { (a ≤ 16) × (b ≤ 2) }
-    ensures { result ≡ first (mesh_rows points cells.now room a b) }
+    ensures { number_in result ≡ first (mesh_rows points cells.now room a b) }
 {
-    let number = judge_sizes(points, cells.len(), room, a, b);
-    if number != 0 {
-        return number;
-    }
+    judge_sizes(points, cells.len(), room, a, b)?;
     judge_names(points, cells)
 }

@@ -2,3 +2,4 @@
 pub mod Rows
 pub mod Causes
 pub mod Counting
+pub mod Refusals

@@ -1,4 +1,5 @@
--- Refusals in their order, causes that steps share, and the outcome of a step that counts.
+-- Refusals in their order, causes that steps share, the number of each refusal, and the outcome of a step that counts.
 pub mod Rows
 pub mod Causes
+pub mod Refusals
 pub mod Counted

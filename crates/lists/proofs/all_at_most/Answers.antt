@@ -1,23 +1,15 @@
-use mathlib.Core.Path.{refl, sym, ◌∙◌}
+use mathlib.Core.Path.{sym, ◌∙◌}
 use Prim.Native.Nat.{suc}
 use native.Mathlib.Omega.{arith}
 use Rattle.lists.proofs.Lent.{below_on, below_off, below_end}
 use Rattle.lists.proofs.all_at_most.Goals as goal
 
-pub loop-i-init : goal.loop-i-init
-loop-i-init c = (omega arith, refl)
+pub returns-then-bound-x : goal.returns-then-bound-x
+returns-then-bound-x c =
+    sym (c.loop-x.invariant ∙ below_off (suc c.args.bound) c.loop-x.x-index c.args.table.now c.loop-x-test.true (omega arith))
 
-pub returns-then-bound-table : goal.returns-then-bound-table
-returns-then-bound-table c =
-    let l = c.loop-i in
-    let s = c.args in
-    sym (l.invariant.1 ∙ below_off (suc s.bound) l.i s.table.now (omega arith) (omega arith))
-
-pub loop-i-preserved : goal.loop-i-preserved
-loop-i-preserved c =
-    let l = c.loop-i in
-    let s = c.args in
-    (omega arith, l.invariant.1 ∙ below_on (suc s.bound) l.i s.table.now (omega arith) (omega arith))
+pub loop-x-preserved : goal.loop-x-preserved
+loop-x-preserved c = c.loop-x.invariant ∙ below_on (suc c.args.bound) c.loop-x.x-index c.args.table.now c.loop-x-test.true (omega arith)
 
 pub returns : goal.returns
-returns c = sym (c.loop-i.invariant.1 ∙ below_end _ _ _ c.loop-i-test.false)
+returns c = sym (c.loop-x.invariant ∙ below_end _ _ _ c.loop-x-test.false)

@@ -1,12 +1,8 @@
 use mathlib.Core.Path.{◌≡◌}
 use mathlib.Core.Bool.{◌&&◌}
-use Prim.Native.Nat.{◌≤◌, ◌-◌}
-use lib.ListN.{length, drop}
+use lib.ListN.{drop}
 use Rattle.lists.specs.Tables.{all_below}
 use Rattle.lists.proofs.all_below.Given as goal
 
-abbrev pub invariant-loop-i : goal.invariant-loop-i
-invariant-loop-i l = (l.i ≤ length l.table) × (all_below l.bound l.table ≡ l.below && all_below l.bound (drop l.i l.table))
-
-abbrev pub decreases-loop-i : goal.decreases-loop-i
-decreases-loop-i l = length l.table - l.i
+abbrev pub invariant-loop-x : goal.invariant-loop-x
+invariant-loop-x l = all_below l.bound l.table ≡ l.below && all_below l.bound (drop l.x-index l.table)
