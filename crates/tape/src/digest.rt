@@ -1,5 +1,5 @@
 // A digest: one number for all that a call answered and left.
-ghost use Rattle.std.specs.Prelude.{◌≡◌};
+ghost use Rattle.std.specs.Prelude.{◌≡◌, ℕ, map};
 ghost use Rattle.tape.specs.Digest.{mixed, digest_of};
 
 // A number more.
@@ -9,41 +9,45 @@ pub fn number(digest: u64, n: u64) -> u64
     ((digest % 4_294_967_291) * 2_654_435_761 + n % 4_294_967_291) % 4_294_967_291
 }
 
-// A table of words more.
-pub fn words(digest: u64, entries: &[u32]) -> u64
-    ensures { result ≡ digest_of digest entries.now }
-{
-    let mut d = digest;
-    let mut i: usize = 0;
-    while i < entries.len() {
-        d = number(d, entries[i] as u64);
-        i += 1;
-    }
-    d
+// An entry of a table that is digested: a byte, a word, a long word. Its number is itself.
+pub trait Entry: Copy {
+    ghost itself: { Self → ℕ };
+
+    fn number(self) -> u64
+        ensures { result ≡ itself self };
 }
 
-// A table of bytes more.
-pub fn bytes(digest: u64, entries: &[u8]) -> u64
-    ensures { result ≡ digest_of digest entries.now }
-{
-    let mut d = digest;
-    let mut i: usize = 0;
-    while i < entries.len() {
-        d = number(d, entries[i] as u64);
-        i += 1;
+impl Entry for u8 {
+    ghost itself = { λ x. x };
+
+    fn number(self) -> u64 {
+        u64::from(self)
     }
-    d
 }
 
-// A table of long words more.
-pub fn longs(digest: u64, entries: &[u64]) -> u64
-    ensures { result ≡ digest_of digest entries.now }
+impl Entry for u32 {
+    ghost itself = { λ x. x };
+
+    fn number(self) -> u64 {
+        u64::from(self)
+    }
+}
+
+impl Entry for u64 {
+    ghost itself = { λ x. x };
+
+    fn number(self) -> u64 {
+        self
+    }
+}
+
+// A table more.
+pub fn entries<T: Entry>(digest: u64, table: &[T]) -> u64
+    ensures { result ≡ digest_of digest (map T.itself table.now) }
 {
     let mut d = digest;
-    let mut i: usize = 0;
-    while i < entries.len() {
-        d = number(d, entries[i]);
-        i += 1;
+    for x in table {
+        d = number(d, x.number());
     }
     d
 }

@@ -16,7 +16,7 @@ mod digest;
 mod reading;
 mod telling;
 
-pub use digest::{bytes, longs, number, words};
+pub use digest::{Entry, entries, number};
 pub use reading::read_full;
 pub use telling::tell;
 
@@ -83,24 +83,18 @@ pub fn word(tape: &[u32], at: usize, i: usize) -> u32
     0
 }
 
-fn least(a: usize, b: usize) -> usize
-    ensures { result ≡ min a b }
-{
-    if a < b { a } else { b }
-}
-
 // The place n words on, at most the end of the tape.
 pub fn onward(tape: &[u32], at: usize, n: usize) -> usize
     ensures { result ≡ onward_from tape.now at n }
 {
-    let from = least(at, tape.len());
-    from + least(n, tape.len() - from)
+    let from = at.min(tape.len());
+    from + n.min(tape.len() - from)
 }
 
 fn count(tape: &[u32], at: usize, i: usize) -> usize
     ensures { result ≡ get_or tape.now (at + i) 0 }
 {
-    lists::wide(word(tape, at, i))
+    word(tape, at, i) as usize
 }
 
 impl Lengths {
@@ -109,11 +103,11 @@ impl Lengths {
         ensures { LengthsAt tape.now at result }
     {
         Self {
-            first: least(ROOM, count(tape, at, 10)),
-            second: least(ROOM, count(tape, at, 11)),
-            third: least(ROOM, count(tape, at, 12)),
-            bytes: least(ROOM, count(tape, at, 13)),
-            longs: least(ROOM, count(tape, at, 14)),
+            first: ROOM.min(count(tape, at, 10)),
+            second: ROOM.min(count(tape, at, 11)),
+            third: ROOM.min(count(tape, at, 12)),
+            bytes: ROOM.min(count(tape, at, 13)),
+            longs: ROOM.min(count(tape, at, 14)),
         }
     }
 }
@@ -170,8 +164,8 @@ impl Inputs {
 pub fn table(tape: &[u32], part: Part) -> &[u32]
     ensures { result.now ≡ take part.count (drop part.from tape.now) }
 {
-    let from = least(part.from, tape.len());
-    let n = least(part.count, tape.len() - from);
+    let from = part.from.min(tape.len());
+    let n = part.count.min(tape.len() - from);
     &tape[from..from + n]
 }
 
@@ -187,6 +181,6 @@ pub fn byte_table(tape: &[u8], part: Part) -> &[u8]
     ensures { result.now ≡ take part.count (drop (4 * part.from) tape.now) }
 {
     let from = first_byte(part.from, tape.len());
-    let n = least(part.count, tape.len() - from);
+    let n = part.count.min(tape.len() - from);
     &tape[from..from + n]
 }
