@@ -29,8 +29,7 @@ pub fn from_f32(x: f32) -> u32
 pub fn is_finite(x: f32) -> bool
     ensures { result ≡ finite x }
 {
-    let infinity = 1.0 / 0.0;
-    x < infinity && -infinity < x
+    x.is_finite()
 }
 
 // Above zero, and finite.
@@ -60,13 +59,10 @@ pub fn ceiling(x: f32, most: u32) -> u32
     requires { most < 8388608 }
     ensures { result ≡ ceil_to most x }
 {
-    let mut n = start(x, most);
-    while n <= most {
-        if x > n as f32 {
-            n += 1;
-        } else {
+    for n in start(x, most)..most + 1 {
+        if !(x > n as f32) {
             return n;
         }
     }
-    n
+    most + 1
 }

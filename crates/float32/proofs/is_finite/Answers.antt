@@ -1,11 +1,6 @@
-use lib.Ieee.{div, of_bits, neg}
-use Rattle.float32.proofs.Floats.{above_bottom, not_below_top}
+use mathlib.Core.Path.{◌∙◌}
+use Rattle.float32.proofs.Floats.{finite_is}
 use Rattle.float32.proofs.is_finite.Goals as goal
 
-pub returns-then-x-infinity : goal.returns-then-x-infinity
-unfolding div of_bits neg
-returns-then-x-infinity c = above_bottom c.args.x c.if-x-infinity.true
-
-pub returns-else-x-infinity : goal.returns-else-x-infinity
-unfolding div of_bits neg
-returns-else-x-infinity c = not_below_top c.args.x c.if-x-infinity.false
+pub returns : goal.returns
+returns c = c.is_finite.ensures.value ∙ finite_is c.args.x
