@@ -30,18 +30,14 @@ fn verdict(tape: &[u32], at: usize) -> Verdict {
     volume::verdict_on(corners, float(tape, at, 0))
 }
 
-fn text(rt: &impl Print, s: &str) -> io::Result<()> {
-    rt.print(s)
-}
-
 fn tell(rt: &impl Print, verdict: Verdict) -> io::Result<()> {
-    match verdict {
-        Verdict::Kept(_) => text(rt, "kept ")?,
-        Verdict::Exchanged(_) => text(rt, "exchanged ")?,
-        Verdict::Dropped(_) => text(rt, "dropped ")?,
-    }
+    let word = match verdict {
+        Verdict::Kept(_) => "kept",
+        Verdict::Exchanged(_) => "exchanged",
+        Verdict::Dropped(_) => "dropped",
+    };
     let bits = volume::volume_bits(verdict);
-    println!(rt; "{bits:08x}")
+    println!(rt; "{word} {bits:08x}")
 }
 
 fn tell_all(rt: &impl Print, tape: &[u32]) -> io::Result<()> {
