@@ -1,7 +1,7 @@
 -- The turns of the loops over words. Assumes nothing.
 use mathlib.Core.Path.{◌≡◌, refl, sym, ap, ap₂, ◌∙◌}
 use mathlib.Core.Logic.{◌≢◌}
-use mathlib.Core.Bool.{Bool, true, false, ◌&&◌, and-true}
+use mathlib.Core.Bool.{Bool, true, false, ◌&&◌, and-true, and_assoc}
 use mathlib.Core.List.{List, [], ◌∷◌}
 use Prim.Native.Nat.{ℕ, ◌+◌, ◌*◌, ◌/◌, ◌%◌, ◌≤◌, ◌<◌}
 use native.Mathlib.Nat.{add-zero}
@@ -16,8 +16,7 @@ use Rattle.lists.proofs.Listing.{list_is, each_on, each_off, each_end, Filling, 
 use Rattle.lists.proofs.Parts.{sets_append}
 use Rattle.lists.proofs.Tests.{falls, stays}
 use Rattle.words.specs.Words.{bytes4, bytes_of, word_at, words_at, cells_at}
-use Rattle.words.specs.Parts.{quad_at, WordsThere, CellsThere}
-use Rattle.words.specs.declared.Quad.{Quad}
+use Rattle.words.specs.Parts.{WordsThere, CellsThere}
 use Rattle.words.proofs.Words.{length_four, length_words, words_at_lem, length_cells, vertex_place, vertex_at}
 
 -- ---- cells that are read
@@ -27,20 +26,20 @@ abbrev pub vertex_word : Bool → ℕ → List ℕ → ℕ → ℕ → ℕ
 vertex_word big stride b at j = word_at big b (at + 4 * (stride * (j / 4) + j % 4))
 
 module _ (big : Bool) (stride : ℕ) (b : List ℕ) (at n : ℕ) where
-  pub cell_read : {y₀ y y' : List ℕ} {i : ℕ} {q : Quad} → Filling (vertex_word big stride b at) y₀ y (4 * i) → length y₀ ≡ 4 * n → i < n
-      → q ≡ quad_at big b (at + 4 * (stride * i)) → y' ≡ sets y (4 * i) (q.a ∷ q.b ∷ q.c ∷ q.d ∷ []) → Filling (vertex_word big stride b at) y₀ y' (4 * (i + 1))
-  cell_read {y₀} {y} {y'} {i} {q} w l h e f =
+  pub cell_read : {y₀ y y' q : List ℕ} {i : ℕ} → Filling (vertex_word big stride b at) y₀ y (4 * i) → length y₀ ≡ 4 * n → i < n
+      → q ≡ words_at big b (at + 4 * (stride * i)) 4 → y' ≡ sets y (4 * i) q → Filling (vertex_word big stride b at) y₀ y' (4 * (i + 1))
+  unfolding words_at list_of
+  cell_read {y₀} {y} {y'} {q} {i} w l h e f =
       let m : 4 * i + 4 ≡ 4 * (i + 1) = omega arith in
-      let z : at + 4 * (stride * i) ≡ at + 4 * (stride * i) + 4 * 0 = omega arith in
       let z0 : 4 * i + 0 ≡ 4 * i = omega arith in
       let p0 = vertex_place big stride b at n i 0 (omega arith) in
       rw (← m)
       (filling_four (vertex_word big stride b at) w (omega (arith, w.long))
-      (ap (λ (r : Quad). r.a) e ∙ ap (word_at big b) (z ∙ sym p0) ∙ ap (vertex_word big stride b at) z0)
-      (ap (λ (r : Quad). r.b) e ∙ ap (word_at big b) (sym (vertex_place big stride b at n i 1 (omega arith))))
-      (ap (λ (r : Quad). r.c) e ∙ ap (word_at big b) (sym (vertex_place big stride b at n i 2 (omega arith))))
-      (ap (λ (r : Quad). r.d) e ∙ ap (word_at big b) (sym (vertex_place big stride b at n i 3 (omega arith))))
-      f)
+      (ap (word_at big b) (sym p0) ∙ ap (vertex_word big stride b at) z0)
+      (ap (word_at big b) (sym (vertex_place big stride b at n i 1 (omega arith))))
+      (ap (word_at big b) (sym (vertex_place big stride b at n i 2 (omega arith))))
+      (ap (word_at big b) (sym (vertex_place big stride b at n i 3 (omega arith))))
+      (f ∙ ap (sets y (4 * i)) e))
 
   pub cells_read : {y₀ y : List ℕ} {i : ℕ} → Filling (vertex_word big stride b at) y₀ y (4 * i) → length y₀ ≡ 4 * n → n ≤ i → y ≡ cells_at big stride b at n
   unfolding cells_at
@@ -52,10 +51,9 @@ plain_there b at n m h e = record { there = λ i k. omega (arith, h.there (i / 4
 
 -- ---- four words compared with a bound
 
-pub four_tests : (big : Bool) (b : List ℕ) (at bound : ℕ) {q : Quad} → q ≡ quad_at big b at
-    → all_below bound (words_at big b at 4) ≡ ltb q.a bound && (ltb q.b bound && (ltb q.c bound && (ltb q.d bound && true)))
-unfolding words_at list_of all_below
-four_tests big b at bound {q} e = rw (e, add-zero) refl
+pub four_tests : (a b c d bound : ℕ) → ltb a bound && ltb b bound && ltb c bound && ltb d bound ≡ all_below bound (a ∷ b ∷ c ∷ d ∷ [])
+unfolding all_below
+four_tests a b c d bound = rw (and-true (ltb d bound)) (and_assoc (ltb a bound && ltb b bound) (ltb c bound) (ltb d bound) ∙ and_assoc (ltb a bound) (ltb b bound) (ltb c bound && ltb d bound))
 
 -- the cell i among those that are still to be compared
 module _ (big : Bool) (stride : ℕ) (b : List ℕ) (at n bound i : ℕ) where

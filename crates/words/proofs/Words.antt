@@ -1,7 +1,7 @@
 -- Laws of words in bytes: how many there are, each of them, and there and back. Assumes nothing.
 use mathlib.Core.Path.{◌≡◌, refl, sym, ap, ap₂, subst, ◌∙◌}
 use mathlib.Core.Logic.{◌≢◌}
-use mathlib.Core.Bool.{Bool, true, false}
+use mathlib.Core.Bool.{Bool, true, false, cond}
 use mathlib.Core.List.{List, [], ◌∷◌, ◌++◌, append_assoc, append-nil}
 use Prim.Native.Nat.{ℕ, zero, suc, ◌+◌, ◌*◌, ◌/◌, ◌%◌, ◌≤◌, ◌<◌}
 use native.Mathlib.Nat.{add-zero}
@@ -12,7 +12,29 @@ use Rattle.lists.specs.Tables.{list_of, all_below}
 use Rattle.lists.proofs.Lent.{below_at, all_below_lem}
 use Rattle.lists.proofs.Listing.{list_is, list_at, list_same, length_list}
 use Rattle.words.specs.Words.{bytes4, bytes_of, four, word_at, words_at, cells_at}
-use Rattle.words.specs.Parts.{Bytes, turned_of}
+use Rattle.words.specs.Parts.{turned_of}
+use Rattle.std.specs.Int.{w32, from_le_bytes, from_be_bytes, to_le_bytes, to_be_bytes, swap_bytes}
+
+-- ---- the library's words are these
+
+pub low_word : (a b c d : ℕ) → from_le_bytes w32 (a ∷ b ∷ c ∷ d ∷ []) ≡ four false a b c d
+low_word a b c d = omega arith
+
+pub high_word : (a b c d : ℕ) → from_be_bytes w32 (a ∷ b ∷ c ∷ d ∷ []) ≡ four true a b c d
+high_word a b c d = omega arith
+
+pub library_bytes : (big : Bool) (x : ℕ) → x < 4294967296 → cond big (to_be_bytes w32 x) (to_le_bytes w32 x) ≡ bytes4 big x
+unfolding bytes4
+library_bytes false x h = let e : x / 16777216 % 256 ≡ x / 16777216 = omega arith in rw e refl
+library_bytes true x h = let e : x / 16777216 % 256 ≡ x / 16777216 = omega arith in rw e refl
+
+pub swapped : (x : ℕ) → x < 4294967296 → swap_bytes w32 x ≡ turned_of true x
+unfolding turned_of
+swapped x h = let e : x / 16777216 % 256 ≡ x / 16777216 = omega arith in omega arith
+
+-- four bytes
+abbrev pub Bytes : ℕ → ℕ → ℕ → ℕ → Type 0
+Bytes a b c d = (a < 256) × (b < 256) × (c < 256) × (d < 256)
 
 pub length_four : (big : Bool) (x : ℕ) → length (bytes4 big x) ≡ 4
 unfolding bytes4

@@ -1,5 +1,4 @@
 use mathlib.Core.Path.{◌≡◌}
-use Prim.Native.Nat.{◌-◌}
 use lib.ListN.{replicate}
 use Rattle.lists.specs.Tables.{same}
 use Rattle.words.specs.Words.{words_at}
@@ -8,6 +7,3 @@ use Rattle.words.proofs.all_are.Given as goal
 
 abbrev pub invariant-loop-i : goal.invariant-loop-i
 invariant-loop-i l = same (words_at l.big l.file l.at l.n) (replicate l.n l.x) ≡ comparing l.big l.file l.at l.n l.x l.all l.i
-
-abbrev pub decreases-loop-i : goal.decreases-loop-i
-decreases-loop-i l = l.n - l.i

@@ -1,5 +1,4 @@
 use native.Mathlib.Omega.{arith}
-use lib.ListN.{length-set}
 use Rattle.lists.proofs.Listing.{filling_start, filling_on, filling_done}
 use Rattle.words.specs.Words.{words_at}
 use Rattle.words.proofs.get_words.Goals as goal
@@ -13,15 +12,12 @@ overflow_add-at c = omega (arith, c.requires.there c.loop-i.i (omega (arith, c.l
 pub word-requires : goal.word-requires
 word-requires c = c.requires.there c.loop-i.i (omega (arith, c.loop-i.invariant.long))
 
-pub loop-i-smaller : goal.loop-i-smaller
-loop-i-smaller c = simp length-set (omega arith)
-
 pub loop-i-preserved : goal.loop-i-preserved
-loop-i-preserved c = filling_on _ c.loop-i.invariant c.loop-i-test.true c.word.ensures
+loop-i-preserved c = filling_on _ c.loop-i.invariant (omega (arith, c.loop-i.invariant.long)) c.word.ensures
 
 pub shape_of-table : goal.shape_of-table
 shape_of-table c = c.loop-i.invariant.long
 
 pub returns : goal.returns
 unfolding words_at
-returns c = filling_done _ c.loop-i.invariant c.loop-i-test.false
+returns c = filling_done _ c.loop-i.invariant (omega (arith, c.loop-i.invariant.long))

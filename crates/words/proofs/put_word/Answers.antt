@@ -1,42 +1,18 @@
-use mathlib.Core.Path.{◌≡◌}
+use mathlib.Core.Path.{◌≡◌, ap, ◌∙◌}
+use mathlib.Core.Bool.{true, false}
 use native.Mathlib.Omega.{arith}
-use Prim.Native.Nat.{suc, ◌+◌}
-use lib.ListN.{length-set}
+use lib.ListN.{length}
+use lib.Seq.{sets}
+use Rattle.lists.proofs.Parts.{put_sets}
 use Rattle.words.specs.Words.{bytes4}
+use Rattle.words.proofs.Words.{length_four, library_bytes}
 use Rattle.words.proofs.put_word.Goals as goal
-
-pub bounds-file-at-then-big : goal.bounds-file-at-then-big
-bounds-file-at-then-big c = simp length-set (omega arith)
-
-pub bounds-file-at-then-big-2 : goal.bounds-file-at-then-big-2
-bounds-file-at-then-big-2 c = simp length-set (omega arith)
-
-pub bounds-file-at-then-big-3 : goal.bounds-file-at-then-big-3
-bounds-file-at-then-big-3 c = simp length-set (omega arith)
-
-pub returns-then-big : goal.returns-then-big
-unfolding bytes4
-returns-then-big c =
-    let at = c.args.at in
-    let e1 : at + 1 ≡ suc at = omega arith in
-    let e2 : at + 2 ≡ suc (suc at) = omega arith in
-    let e3 : at + 3 ≡ suc (suc (suc at)) = omega arith in
-    rw (c.if-big.true, e1, e2, e3)
-
-pub bounds-file-at-3 : goal.bounds-file-at-3
-bounds-file-at-3 c = simp length-set (omega arith)
-
-pub bounds-file-at-4 : goal.bounds-file-at-4
-bounds-file-at-4 c = simp length-set (omega arith)
-
-pub bounds-file-at-5 : goal.bounds-file-at-5
-bounds-file-at-5 c = simp length-set (omega arith)
+use Rattle.words.proofs.put_word.Goals.{then-big, else-big}
 
 pub returns : goal.returns
-unfolding bytes4
 returns c =
-    let at = c.args.at in
-    let e1 : at + 1 ≡ suc at = omega arith in
-    let e2 : at + 2 ≡ suc (suc at) = omega arith in
-    let e3 : at + 3 ≡ suc (suc (suc at)) = omega arith in
-    rw (c.if-big.false, e1, e2, e3)
+    let b : c.copy_from_slice.new.self ≡ bytes4 c.args.big c.args.x =
+    c.copy_from_slice.ensures.after
+    ∙ elim c.if-big.branch [ then-big w ↦ w.bytes-is ∙ w.to_be_bytes-bytes.ensures ∙ rw (w.if-big.true) (library_bytes true c.args.x (omega arith)) | else-big w ↦ w.bytes-is ∙ w.to_le_bytes-bytes.ensures ∙ rw (w.if-big.false) (library_bytes false c.args.x (omega arith)) ]
+    in
+    put_sets c.args.at 4 c.args.file.now _ (ap length b ∙ length_four _ _) c.requires ∙ ap (sets c.args.file.now c.args.at) b

@@ -1,10 +1,11 @@
-use mathlib.Core.Path.{refl}
+use mathlib.Core.Path.{refl, ◌∙◌}
+use native.Mathlib.Omega.{arith}
 use Rattle.words.specs.Parts.{turned_of}
+use Rattle.words.proofs.Words.{swapped}
 use Rattle.words.proofs.turned.Goals as goal
 
 pub returns-then-big : goal.returns-then-big
-unfolding turned_of
-returns-then-big c = rw c.if-big.true c.low_first.ensures.0
+returns-then-big c = rw c.if-big.true (c.swap_bytes.ensures ∙ swapped _ (omega arith))
 
 pub returns : goal.returns
 unfolding turned_of
