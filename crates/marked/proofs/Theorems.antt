@@ -10,6 +10,7 @@ use native.Mathlib.Nat.{not-suc-le-zero}
 use native.Mathlib.Omega.{arith}
 use lib.Ieee.{Float}
 use lib.ListN.{length, get_or, drop, get_or-append}
+use Rattle.std.specs.Prelude.{Result, Ok}
 use Rattle.lists.specs.Appearance.{place, seen_of}
 use Rattle.lists.specs.Runs.{those, spread}
 use Rattle.lists.specs.Tables.{front, on}
@@ -30,7 +31,7 @@ use Rattle.marked.specs.Used.{used_of, renumbered, points_at}
 use Rattle.marked.specs.Kept.{number_of, values_of, points_kept, cells_kept, kept_of}
 use Rattle.marked.specs.Parts.{KeptMarked}
 use Rattle.marked.specs.declared.Kept.{Kept}
-use Rattle.marked.specs.declared.Kept.TheVariants.{Done}
+use Rattle.marked.specs.declared.KeepError.{KeepError}
 use Rattle.marked.proofs.Using.{uses_here, renumbered_length, used_seen, renumbered_at, seen_from}
 use Rattle.marked.proofs.Counting.{Many, many_those, both_counted}
 use Rattle.marked.proofs.Placing.{points_length, points_at_lem}
@@ -229,8 +230,9 @@ module _ (mark : ℕ → Bool) (least : Float) (P C : List ℕ) where
       ap (λ (l : List ℕ). get_or l (4 * k + a) 0) (cells_stay mark least P C (cells_of C))
       ∙ spread_at (vertices_of least P C) 4 (four_vertices least P C) staying k a h b
 
-  module _ {points cells dropped : ℕ} {p q p' q' : List ℕ} {r : Kept} (w : KeptMarked P C mark least p q r p' q') (e : r ≡ Done points cells dropped) where
-    done : kept_of final lost p q ≡ Done points cells dropped
+  module _ {points cells dropped : ℕ} {p q p' q' : List ℕ} {r : Result Kept KeepError} (w : KeptMarked P C mark least p q r p' q')
+      (e : r ≡ Ok (record { points = points; cells = cells; dropped = dropped })) where
+    done : kept_of final lost p q ≡ Ok (record { points = points; cells = cells; dropped = dropped })
     done = sym w.answer ∙ e
 
     number_zero : number_of (kept_of final lost p q) ≡ 0

@@ -10,6 +10,7 @@ use lib.Dec.{eqb, ltb}
 use lib.Ieee.{Float}
 use lib.ListN.{length, get_or, take, drop}
 use lib.Seq.{length-take-le, get_or-take, get_or-drop}
+use Rattle.std.specs.Prelude.{Result, Ok, Err}
 use Rattle.lists.specs.Appearance.{place}
 use Rattle.lists.proofs.Cases.{eq_or, lt_or}
 use Rattle.lists.proofs.Lent.{as_lent, as_new}
@@ -17,6 +18,7 @@ use Rattle.lists.proofs.Running.{run_same, run_map}
 use Rattle.lists.proofs.Passing.{those_same}
 use Rattle.refusals.specs.Rows.{first}
 use Rattle.refusals.specs.Causes.{room_rows}
+use Rattle.refusals.specs.declared.Refusal.TheVariants.{NothingKept}
 use Rattle.mesh.specs.Mesh.{points_of, cells_of, cell_of, Each, in_order}
 use Rattle.mesh.specs.declared.Cell.{Cell}
 use Rattle.mesh.proofs.Named.{cell_points, each_then}
@@ -29,7 +31,8 @@ use Rattle.marked.specs.Kept.{points_kept, cells_kept, kept_rows, number_of, kep
 use Rattle.marked.specs.Parts.{marked_in, code_of, code_at, In, Tallied, ordered, shape_of, placed_cell, placed_cells, CellsAsked, PointsAsked, PointsStored, KeptAs, KeptMarked}
 use Rattle.marked.specs.declared.Counts.{Counts}
 use Rattle.marked.specs.declared.Kept.{Kept}
-use Rattle.marked.specs.declared.Kept.TheVariants.{Done, Short, Nothing}
+use Rattle.marked.specs.declared.KeepError.{KeepError}
+use Rattle.marked.specs.declared.KeepError.TheVariants.{Refused, Short}
 use Rattle.marked.proofs.Using.{distinct_uses, distinct_none, renumbered_length}
 use Rattle.marked.proofs.Placing.{order_named}
 
@@ -119,32 +122,32 @@ module _ (P C M w : List ℕ) (n : ℕ) (least : Float) (r : Counts) (t : Tallie
 -- ---- the four ways out
 
 module _ (P F : List ℕ) (lost : ℕ) (p q : List ℕ) {used kept : ℕ} (eu : used ≡ length (used_of F)) (ek : kept ≡ length F / 4) where
-  pub short_points : length p / 3 < used → KeptAs P F lost p q (Short used kept) p q
+  pub short_points : length p / 3 < used → KeptAs P F lost p q (Err (Short used kept)) p q
   unfolding kept_of
   short_points h =
-      let a : kept_of F lost p q ≡ Short used kept = rw (← eu, ← ek, lt-ltb (length p / 3) used h) refl in
+      let a : kept_of F lost p q ≡ Err (Short used kept) = rw (← eu, ← ek, lt-ltb (length p / 3) used h) refl in
       record { answer = sym a; points = rw a (sym (as_lent 9 _ p (λ e. omega arith))); cells = rw a (sym (as_lent 9 _ q (λ e. omega arith))) }
 
   module _ (g : used ≤ length p / 3) where
-    pub short_cells : length q / 4 < kept → KeptAs P F lost p q (Short used kept) p q
+    pub short_cells : length q / 4 < kept → KeptAs P F lost p q (Err (Short used kept)) p q
     unfolding kept_of
     short_cells h =
-        let a : kept_of F lost p q ≡ Short used kept = rw (← eu, ← ek, le-ltb (length p / 3) used g, lt-ltb (length q / 4) kept h) refl in
+        let a : kept_of F lost p q ≡ Err (Short used kept) = rw (← eu, ← ek, le-ltb (length p / 3) used g, lt-ltb (length q / 4) kept h) refl in
         record { answer = sym a; points = rw a (sym (as_lent 9 _ p (λ e. omega arith))); cells = rw a (sym (as_lent 9 _ q (λ e. omega arith))) }
 
     module _ (h : kept ≤ length q / 4) where
-      pub nothing : kept ≡ 0 → KeptAs P F lost p q Nothing p q
+      pub nothing : kept ≡ 0 → KeptAs P F lost p q (Err (Refused NothingKept)) p q
       unfolding kept_of
       nothing z =
-          let a : kept_of F lost p q ≡ Nothing = rw (← eu, ← ek, le-ltb (length p / 3) used g, le-ltb (length q / 4) kept h, eq-eqb kept 0 z) refl in
+          let a : kept_of F lost p q ≡ Err (Refused NothingKept) = rw (← eu, ← ek, le-ltb (length p / 3) used g, le-ltb (length q / 4) kept h, eq-eqb kept 0 z) refl in
           record { answer = sym a; points = rw a (sym (as_lent 10 _ p (λ e. omega arith))); cells = rw a (sym (as_lent 10 _ q (λ e. omega arith))) }
 
       pub all_kept : {dropped : ℕ} {p' q' : List ℕ} → dropped ≡ lost → kept ≢ 0
           → p' ≡ points_at P (used_of F) → q' ≡ renumbered F
-          → KeptAs P F lost p q (Done used kept dropped) (p' ++ drop (3 * used) p) (q' ++ drop (4 * kept) q)
+          → KeptAs P F lost p q (Ok (record { points = used; cells = kept; dropped = dropped })) (p' ++ drop (3 * used) p) (q' ++ drop (4 * kept) q)
       unfolding kept_of
       all_kept {dropped} ed d ep eq =
-          let a : kept_of F lost p q ≡ Done used kept dropped =
+          let a : kept_of F lost p q ≡ Ok (record { points = used; cells = kept; dropped = dropped }) =
           rw (← eu, ← ek, ← ed, le-ltb (length p / 3) used g, le-ltb (length q / 4) kept h, ne_eqb kept 0 d) refl in
           record {
             answer = sym a;
@@ -152,28 +155,32 @@ module _ (P F : List ℕ) (lost : ℕ) (p q : List ℕ) {used kept : ℕ} (eu : 
             cells = rw (a, eq, ek) (sym (as_new [] _ q));
           }
 
+-- the answer by its three tests
+abbrev by_tests : List ℕ → ℕ → Bool → Bool → Bool → Result Kept KeepError
+by_tests F lost s t u =
+    cond s (Err (Short (points_kept F) (cells_kept F)))
+    (cond t (Err (Short (points_kept F) (cells_kept F)))
+    (cond u (Err (Refused NothingKept)) (Ok (record { points = points_kept F; cells = cells_kept F; dropped = lost }))))
+
 -- the number of the answer is that of its rows
 pub kept_number : (F : List ℕ) (lost : ℕ) (p q : List ℕ) → number_of (kept_of F lost p q) ≡ first (kept_rows F p q)
 unfolding kept_of first kept_rows room_rows
 kept_number F lost p q = go (ltb (length p / 3) (points_kept F)) (ltb (length q / 4) (cells_kept F)) (eqb (cells_kept F) 0)
   where
-    go : (s t u : Bool)
-        → number_of (cond s (Short (points_kept F) (cells_kept F)) (cond t (Short (points_kept F) (cells_kept F)) (cond u Nothing (Done (points_kept F) (cells_kept F) lost))))
-        ≡ cond s 9 (cond t 9 (cond u 10 0))
+    go : (s t u : Bool) → number_of (by_tests F lost s t u) ≡ cond s 9 (cond t 9 (cond u 10 0))
     go true t u = refl
     go false true u = refl
     go false false true = refl
     go false false false = refl
 
 -- where it is an answer, with what it carries
-pub done_is : (F : List ℕ) (lost : ℕ) (p q : List ℕ) → number_of (kept_of F lost p q) ≡ 0 → kept_of F lost p q ≡ Done (points_kept F) (cells_kept F) lost
+pub done_is : (F : List ℕ) (lost : ℕ) (p q : List ℕ) → number_of (kept_of F lost p q) ≡ 0
+    → kept_of F lost p q ≡ Ok (record { points = points_kept F; cells = cells_kept F; dropped = lost })
 unfolding kept_of
 done_is F lost p q = go (ltb (length p / 3) (points_kept F)) (ltb (length q / 4) (cells_kept F)) (eqb (cells_kept F) 0)
   where
-    go : (s t u : Bool)
-        → number_of (cond s (Short (points_kept F) (cells_kept F)) (cond t (Short (points_kept F) (cells_kept F)) (cond u Nothing (Done (points_kept F) (cells_kept F) lost)))) ≡ 0
-        → cond s (Short (points_kept F) (cells_kept F)) (cond t (Short (points_kept F) (cells_kept F)) (cond u Nothing (Done (points_kept F) (cells_kept F) lost)))
-        ≡ Done (points_kept F) (cells_kept F) lost
+    go : (s t u : Bool) → number_of (by_tests F lost s t u) ≡ 0
+        → by_tests F lost s t u ≡ Ok (record { points = points_kept F; cells = cells_kept F; dropped = lost })
     go true t u z = absurd (omega arith)
     go false true u z = absurd (omega arith)
     go false false true z = absurd (omega arith)
@@ -181,7 +188,7 @@ done_is F lost p q = go (ltb (length p / 3) (points_kept F)) (ltb (length q / 4)
 
 -- ---- marks that agree keep the same
 
-pub kept_same : (P C : List ℕ) (mark other : ℕ → Bool) (least : Float) {p q p' q' : List ℕ} {r : Kept} → ((i : ℕ) → i < cells_of C → mark i ≡ other i)
+pub kept_same : (P C : List ℕ) (mark other : ℕ → Bool) (least : Float) {p q p' q' : List ℕ} {r : Result Kept KeepError} → ((i : ℕ) → i < cells_of C → mark i ≡ other i)
     → KeptMarked P C mark least p q r p' q' → KeptMarked P C other least p q r p' q'
 unfolding final_cells dropped_count
 kept_same P C mark other least {p} {q} {p'} {q'} {r} h =

@@ -1,6 +1,6 @@
 -- What the parts of the code ask and give. In the work table w there are n entries for the points in front, and behind them one for each
 -- cell: first whether it is marked, and then whether it stays: 0 no, 1 as it is, 2 exchanged.
-use Rattle.std.specs.Prelude.{◌≡◌, ◌≢◌, Bool, cond, not, List, [], map, ℕ, ◌+◌, ◌-◌, ◌*◌, ◌≤◌, ◌<◌, eqb, Float, length, get_or, set, take, drop}
+use Rattle.std.specs.Prelude.{◌≡◌, ◌≢◌, Bool, cond, not, List, [], map, ℕ, ◌+◌, ◌-◌, ◌*◌, ◌≤◌, ◌<◌, eqb, Float, length, get_or, set, take, drop, Result}
 use Rattle.std.proofs.lemmas.List.Edits.{sets}
 use Rattle.lists.specs.Tests.{bit}
 use Rattle.lists.specs.Appearance.{place, noted, Table}
@@ -16,6 +16,7 @@ use Rattle.marked.specs.Used.{first_uses, used_of, point_bits, points_at}
 use Rattle.marked.specs.Kept.{kept_of, points_after, cells_after}
 use Rattle.marked.specs.declared.Counts.{Counts}
 use Rattle.marked.specs.declared.Kept.{Kept}
+use Rattle.marked.specs.declared.KeepError.{KeepError}
 
 -- ---- points noted by first use
 
@@ -162,12 +163,12 @@ pub record PointsStored (P o o' T : List ℕ) : Type 0 where
 -- ---- the mesh kept
 
 -- of the cells F that stay, where so many were dropped
-pub record KeptAs (P F : List ℕ) (dropped : ℕ) (p q : List ℕ) (r : Kept) (p' q' : List ℕ) : Type 0 where
+pub record KeptAs (P F : List ℕ) (dropped : ℕ) (p q : List ℕ) (r : Result Kept KeepError) (p' q' : List ℕ) : Type 0 where
   pub answer : r ≡ kept_of F dropped p q
   pub points : p' ≡ points_after (kept_of F dropped p q) P F p
   pub cells : q' ≡ cells_after (kept_of F dropped p q) F q
 
 -- of the cells that a test marks
-abbrev pub KeptMarked : List ℕ → List ℕ → (ℕ → Bool) → Float → List ℕ → List ℕ → Kept → List ℕ → List ℕ → Type 0
+abbrev pub KeptMarked : List ℕ → List ℕ → (ℕ → Bool) → Float → List ℕ → List ℕ → Result Kept KeepError → List ℕ → List ℕ → Type 0
 KeptMarked P C mark least p q r p' q' =
     KeptAs P (final_cells mark least P C (cells_of C)) (dropped_count mark least P C (cells_of C)) p q r p' q'

@@ -6,20 +6,34 @@ ghost use Rattle.std.specs.Prelude.{◌≡◌, ◌-◌, ◌<◌, get_or, take, d
 ghost use Rattle.lists.specs.Tests.{bit};
 ghost use Rattle.mesh.specs.Mesh.{in_order, exchanged};
 ghost use Rattle.groups.specs.Parts.{Laid};
+ghost use Rattle.marked.specs.declared.KeepError.TheVariants.{Refused};
 ghost use Rattle.marked.specs.Parts.{NoteAsked, NotedIn, CornersAsked, CornersNoted, marked_in, WeighAsked, StayAsked, WeighedAs, WeighedAt, Tallied, ordered, CellAsked, CellStored, placed_cells, CellsAsked, PointAsked, PointStored, PointsAsked, PointsStored, KeptMarked};
 
-use lists::wide;
 use mesh::Cell;
+use refusals::Refusal;
 use volume::Verdict;
 
-// The outcome of keeping: points, cells, and cells dropped; refused, with its number; no room for so many points and cells;
-// nothing kept.
-#[derive(Clone, Copy)]
-pub enum Kept {
-    Done(u64, u64, u64),
-    Refused(u32),
+// The mesh that is kept: its points, its cells, and the cells dropped.
+#[derive(Clone, Copy, Debug, PartialEq, Eq)]
+pub struct Kept {
+    pub points: u64,
+    pub cells: u64,
+    pub dropped: u64,
+}
+
+// Why no mesh is kept: refused, also where no cell stays; no room for so many points and cells.
+#[derive(Clone, Copy, Debug, PartialEq, Eq)]
+pub enum KeepError {
+    Refused(Refusal),
     Short(u64, u64),
-    Nothing,
+}
+
+impl From<Refusal> for KeepError {
+    ghost from_gives = { λ why r. r ≡ Refused why };
+
+    fn from(why: Refusal) -> KeepError {
+        KeepError::Refused(why)
+    }
 }
 
 // Points used, cells kept and cells dropped so far.
@@ -76,11 +90,12 @@ fn stay(work: &mut [u32], n: usize, i: usize, code: u32, cell: Cell, counts: Cou
     Counts {
         points,
         cells: counts.cells + 1,
-        dropped: counts.dropped,
+        ..counts
     }
 }
 
-// Weighs the cell i where it is marked. Its entry is then 1 where it is kept, 2 where it is exchanged, and 0 where it is dropped.
+// Weighs the cell i where it is marked. Its entry is then 1 where it is kept, 2 where it is exchanged, and 0 where it is dropped: codes, for
+// the lent table holds numbers.
 fn weigh(
     points: &[u32],
     cells: &[u32],
@@ -105,9 +120,8 @@ fn weigh(
         Verdict::Dropped(_) => {
             work[entry] = 0;
             Counts {
-                points: counts.points,
-                cells: counts.cells,
                 dropped: counts.dropped + 1,
+                ..counts
             }
         }
     }
@@ -118,16 +132,13 @@ fn weigh_all(points: &[u32], cells: &[u32], work: &mut [u32], n: usize, least: f
     requires { Laid points.now cells.now work.old n × (take n work.old ≡ replicate n 0) }
     ensures { Tallied points.now cells.now (drop n work.old) work.new n least result }
 {
-    let many = cells.len() / 4;
     let mut counts = Counts {
         points: 0,
         cells: 0,
         dropped: 0,
     };
-    let mut i: usize = 0;
-    while i < many {
+    for i in 0..cells.len() / 4 {
         counts = weigh(points, cells, work, n, i, least, counts);
-        i += 1;
     }
     counts
 }
@@ -137,7 +148,7 @@ fn tally(points: &[u32], cells: &[u32], work: &mut [u32], n: usize, least: f32) 
     requires { Laid points.now cells.now work.old n }
     ensures { Tallied points.now cells.now (drop n work.old) work.new n least result }
 {
-    lists::zero(&mut work[..n]);
+    work[..n].fill(0);
     weigh_all(points, cells, work, n, least)
 }
 
@@ -180,7 +191,7 @@ fn store_cell(
     let b = place_of(work, cell.b);
     let c = place_of(work, cell.c);
     let d = place_of(work, cell.d);
-    lists::store4(kept_cells, 4 * k, a, b, c, d);
+    lists::store_all(kept_cells, 4 * k, [a, b, c, d]);
     k + 1
 }
 
@@ -189,12 +200,9 @@ fn store_cells(cells: &[u32], kept_cells: &mut [u32], work: &[u32], n: usize)
     requires { CellsAsked cells.now kept_cells.old work.now n }
     ensures { kept_cells.new ≡ placed_cells cells.now work.now n }
 {
-    let many = cells.len() / 4;
     let mut k: usize = 0;
-    let mut i: usize = 0;
-    while i < many {
+    for i in 0..cells.len() / 4 {
         k = store_cell(cells, kept_cells, work, n, i, k);
-        i += 1;
     }
 }
 
@@ -203,13 +211,17 @@ fn store_point(points: &[u32], kept_points: &mut [u32], numbers: &[u32], v: usiz
     requires { PointAsked points.now kept_points.old numbers.now v }
     ensures { PointStored points.now kept_points.old kept_points.new numbers.now v }
 {
-    let number = wide(numbers[v]);
+    let number = numbers[v] as usize;
     if number == 0 {
         return;
     }
     let at = 3 * v;
     let to = 3 * (number - 1);
-    lists::store3(kept_points, to, points[at], points[at + 1], points[at + 2]);
+    lists::store_all(
+        kept_points,
+        to,
+        [points[at], points[at + 1], points[at + 2]],
+    );
 }
 
 // Copies the points that are used to a table that is just as long.
@@ -217,10 +229,8 @@ fn store_points(points: &[u32], kept_points: &mut [u32], numbers: &[u32])
     requires { PointsAsked points.now kept_points.old numbers.now }
     ensures { PointsStored points.now kept_points.old kept_points.new numbers.now }
 {
-    let mut v: usize = 0;
-    while v < numbers.len() {
+    for v in 0..numbers.len() {
         store_point(points, kept_points, numbers, v);
-        v += 1;
     }
 }
 
@@ -233,7 +243,7 @@ pub fn keep_marked(
     work: &mut [u32],
     n: usize,
     least: f32,
-) -> Kept
+) -> Result<Kept, KeepError>
     requires { Laid points.now cells.now work.old n }
     ensures { KeptMarked points.now cells.now (marked_in (drop n work.old)) least kept_points.old kept_cells.old result kept_points.new kept_cells.new }
 {
@@ -241,17 +251,21 @@ pub fn keep_marked(
     let used = counts.points;
     let kept = counts.cells;
     if kept_points.len() / 3 < used {
-        return Kept::Short(used as u64, kept as u64);
+        return Err(KeepError::Short(used as u64, kept as u64));
     }
     if kept_cells.len() / 4 < kept {
-        return Kept::Short(used as u64, kept as u64);
+        return Err(KeepError::Short(used as u64, kept as u64));
     }
     if kept == 0 {
-        return Kept::Nothing;
+        return Err(KeepError::Refused(Refusal::NothingKept));
     }
     let point_places = 3 * used;
     let cell_places = 4 * kept;
     store_cells(cells, &mut kept_cells[..cell_places], work, n);
     store_points(points, &mut kept_points[..point_places], &work[..n]);
-    Kept::Done(used as u64, kept as u64, counts.dropped as u64)
+    Ok(Kept {
+        points: used as u64,
+        cells: kept as u64,
+        dropped: counts.dropped as u64,
+    })
 }

@@ -19,10 +19,10 @@ place_of-c-requires c = (order_named _ (c.order-cell.ensures ∙ ap (ordered _) 
 pub place_of-d-requires : goal.place_of-d-requires
 place_of-d-requires c = (order_named _ (c.order-cell.ensures ∙ ap (ordered _) c.cell_at.ensures) (c.requires.named c.if-code-eq0.false)).d_is
 
-pub store4-requires : goal.store4-requires
-store4-requires c = omega (arith, c.requires.room c.if-code-eq0.false)
+pub store_all-requires : goal.store_all-requires
+store_all-requires c = omega (arith, c.requires.room c.if-code-eq0.false)
 
 pub returns : goal.returns
 returns c =
     cell_placed _ _ _ _ _ _ c.if-code-eq0.false (c.order-cell.ensures ∙ ap (ordered _) c.cell_at.ensures)
-    (rw (c.store4.ensures, c.place_of-a.ensures, c.place_of-b.ensures, c.place_of-c.ensures, c.place_of-d.ensures) refl)
+    (rw (c.store_all.ensures, c.place_of-a.ensures, c.place_of-b.ensures, c.place_of-c.ensures, c.place_of-d.ensures) refl)
