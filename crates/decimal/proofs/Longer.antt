@@ -10,10 +10,10 @@ use lib.ListN.{length, get_or, length-append, get_or-append}
 use Rattle.lists.proofs.Cases.{lt_or, eq_or}
 use Rattle.decimal.specs.Text.{text_at, on_place}
 use Rattle.decimal.specs.Digits.{digits, is_digit, none_at, number_at, more_at, count_at, on_count}
-use Rattle.decimal.specs.declared.Place.{Place}
-use Rattle.decimal.specs.declared.Place.TheVariants as place
 use Rattle.decimal.specs.declared.Counted.{Counted}
-use Rattle.decimal.specs.declared.Counted.TheVariants as counted
+use Rattle.refusals.specs.declared.Refusal.{Refusal}
+use Rattle.refusals.specs.declared.Refusal.TheVariants.{Cut, Text}
+use Rattle.std.specs.Prelude.{Result, Ok, Err}
 use Rattle.decimal.proofs.Counts.{more_ends}
 
 -- c starts with b
@@ -29,38 +29,38 @@ itself b = record { less = omega arith; bytes = λ i h. refl }
 
 -- ---- what the same part of a longer file is
 
--- a part stops with 11, or with 14 and then in the longer file too
-unfoldable pub Halts : {A : Type 0} → (ℕ → A) → ℕ → A → Type 0
-Halts stop k a = (k ≡ 11) ⊎ ((k ≡ 14) × (a ≡ stop 14))
+-- a part is cut off, or departs from its text and then in the longer file too
+unfoldable pub Halts : {A : Type 0} → (Refusal → A) → Refusal → A → Type 0
+Halts stop k a = (k ≡ Cut) ⊎ ((k ≡ Text) × (a ≡ stop Text))
 
-unfoldable pub Stays : Place → Place → Type 0
-Stays (place.At q) p = p ≡ place.At q
-Stays (place.Stopped k) p = Halts place.Stopped k p
+unfoldable pub Stays : Result ℕ Refusal → Result ℕ Refusal → Type 0
+Stays (Ok q) p = p ≡ Ok q
+Stays (Err k) p = Halts Err k p
 
 -- a count that ends with the file may go on in the longer one
-unfoldable pub StaysCount : ℕ → Counted → Counted → Type 0
-StaysCount size (counted.Read v q) c = q < size → c ≡ counted.Read v q
-StaysCount size (counted.Stopped k) c = Halts counted.Stopped k c
+unfoldable pub StaysCount : ℕ → Result Counted Refusal → Result Counted Refusal → Type 0
+StaysCount size (Ok r) c = r.next < size → c ≡ Ok r
+StaysCount size (Err k) c = Halts Err k c
 
 -- ---- parts one behind another
 
-module _ {A : Type 0} (stop : ℕ → A) (Kept : A → A → Type 0) (cut : (a : A) → Kept (stop 11) a) (off : Kept (stop 14) (stop 14)) where
-  pub place_on : (p p' : Place) (f f' : ℕ → A) → Stays p p' → ((q : ℕ) → p ≡ place.At q → Kept (f q) (f' q)) → Kept (on_place p stop f) (on_place p' stop f')
+module _ {A : Type 0} (stop : Refusal → A) (Kept : A → A → Type 0) (cut : (a : A) → Kept (stop Cut) a) (off : Kept (stop Text) (stop Text)) where
+  pub place_on : (p p' : Result ℕ Refusal) (f f' : ℕ → A) → Stays p p' → ((q : ℕ) → p ≡ Ok q → Kept (f q) (f' q)) → Kept (on_place p stop f) (on_place p' stop f')
   unfolding Stays Halts on_place
-  place_on (place.At q) p' f f' s h = rw s (h q refl)
-  place_on (place.Stopped k) p' f f' (inl e) h = rw e (cut _)
-  place_on (place.Stopped k) p' f f' (inr (e, d)) h = rw (e, d) off
+  place_on (Ok q) p' f f' s h = rw s (h q refl)
+  place_on (Err k) p' f f' (inl e) h = rw e (cut _)
+  place_on (Err k) p' f f' (inr (e, d)) h = rw (e, d) off
 
-  pub count_on : (size : ℕ) (c c' : Counted) (f f' : ℕ → ℕ → A) → StaysCount size c c' → ((v q : ℕ) → q < size → Kept (f v q) (f' v q))
-      → ((v q : ℕ) → size ≤ q → f v q ≡ stop 11) → Kept (on_count c stop f) (on_count c' stop f')
+  pub count_on : (size : ℕ) (c c' : Result Counted Refusal) (f f' : ℕ → ℕ → A) → StaysCount size c c' → ((v q : ℕ) → q < size → Kept (f v q) (f' v q))
+      → ((v q : ℕ) → size ≤ q → f v q ≡ stop Cut) → Kept (on_count c stop f) (on_count c' stop f')
   unfolding StaysCount Halts on_count
-  count_on size (counted.Read v q) c' f f' s h e = by_end (lt_or q size)
+  count_on size (Ok r) c' f f' s h e = by_end (lt_or r.next size)
     where
-      by_end : (q < size) ⊎ (size ≤ q) → Kept (f v q) (on_count c' stop f')
-      by_end (inl l) = rw (s l) (h v q l)
-      by_end (inr l) = rw (e v q l) (cut _)
-  count_on size (counted.Stopped k) c' f f' (inl d) h e = rw d (cut _)
-  count_on size (counted.Stopped k) c' f f' (inr (d, g)) h e = rw (d, g) off
+      by_end : (r.next < size) ⊎ (size ≤ r.next) → Kept (f r.value r.next) (on_count c' stop f')
+      by_end (inl l) = rw (s l) (h r.value r.next l)
+      by_end (inr l) = rw (e r.value r.next l) (cut _)
+  count_on size (Err k) c' f f' (inl d) h e = rw d (cut _)
+  count_on size (Err k) c' f f' (inr (d, g)) h e = rw (d, g) off
 
 -- ---- texts, numbers and counts
 
@@ -87,17 +87,17 @@ module _ (b c : List ℕ) (g : Leads b c) where
       by_end (inl l) = rw (lt-ltb at (length b) l, lt-ltb at (length c) (within l)) (inr (refl, refl))
       by_end (inr l) = rw (le-ltb at (length b) l) (inl refl)
 
-  cut_stays : (p : Place) → Stays (place.Stopped 11) p
+  cut_stays : (p : Result ℕ Refusal) → Stays (Err Cut) p
   unfolding Stays Halts
   cut_stays p = inl refl
 
-  off_stays : Stays (place.Stopped 14) (place.Stopped 14)
+  off_stays : Stays (Err Text) (Err Text)
   unfolding Stays Halts
   off_stays = inr (refl, refl)
 
   -- the next part behind one that is there
-  pub next_stays : (p p' : Place) (f f' : ℕ → Place) → Stays p p' → ((q : ℕ) → p ≡ place.At q → Stays (f q) (f' q)) → Stays (on_place p place.Stopped f) (on_place p' place.Stopped f')
-  next_stays = place_on place.Stopped Stays cut_stays off_stays
+  pub next_stays : (p p' : Result ℕ Refusal) (f f' : ℕ → Result ℕ Refusal) → Stays p p' → ((q : ℕ) → p ≡ Ok q → Stays (f q) (f' q)) → Stays (on_place p Err f) (on_place p' Err f')
+  next_stays = place_on Err Stays cut_stays off_stays
 
   pub number_stays : (n at : ℕ) → Stays (number_at n b at) (number_at n c at)
   unfolding number_at
@@ -107,13 +107,13 @@ module _ (b c : List ℕ) (g : Leads b c) where
       by_size (inl l) = rw (lt-ltb n 10000000000 l) (text_stays (digits n) at)
       by_size (inr l) = rw (le-ltb n 10000000000 l) (next_stays _ _ _ _ (text_stays (digits (n / 10)) at) (λ q e. none_stays q))
 
-  more_stays : (k at x : ℕ) → StaysCount (length b) (more_at k b at x) (more_at k c at x)
+  more_stays : (k at x : ℕ) → StaysCount (length b) (Ok (more_at k b at x)) (Ok (more_at k c at x))
   unfolding more_at StaysCount
   more_stays zero at x = λ h. refl
   more_stays (suc k) at x = by_byte (more_stays k (suc at) (10 * x + (get_or b at 0 - 48))) (lt_or at (length b)) (is_digit (get_or b at 0)) refl
     where
-      by_byte : StaysCount (length b) (more_at k b (suc at) (10 * x + (get_or b at 0 - 48))) (more_at k c (suc at) (10 * x + (get_or b at 0 - 48))) → (at < length b) ⊎ (length b ≤ at) → (t : Bool) → is_digit (get_or b at 0) ≡ t
-          → StaysCount (length b) (more_at (suc k) b at x) (more_at (suc k) c at x)
+      by_byte : StaysCount (length b) (Ok (more_at k b (suc at) (10 * x + (get_or b at 0 - 48)))) (Ok (more_at k c (suc at) (10 * x + (get_or b at 0 - 48)))) → (at < length b) ⊎ (length b ≤ at) → (t : Bool) → is_digit (get_or b at 0) ≡ t
+          → StaysCount (length b) (Ok (more_at (suc k) b at x)) (Ok (more_at (suc k) c at x))
       by_byte s (inl l) true e = rw (g.bytes at l, e) s
       by_byte s (inl l) false e = rw (g.bytes at l, e) (λ h. refl)
       by_byte s (inr l) t e = rw (more_ends b at x (suc k) l) (λ h. absurd (omega arith))

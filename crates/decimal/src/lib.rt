@@ -6,37 +6,30 @@ ghost use Rattle.lists.specs.Runs.{Stored};
 ghost use Rattle.decimal.specs.Text.{text_at};
 ghost use Rattle.decimal.specs.Digits.{digits, number_at, more_at, count_at};
 
-// Where a part of a file ends that is there; or the number of the refusal.
-#[derive(Clone, Copy)]
-pub enum Place {
-    At(usize),
-    Stopped(u32),
+use refusals::Refusal;
+
+// A count that is there, and the place after it.
+#[derive(Clone, Copy, Debug, PartialEq, Eq)]
+pub struct Counted {
+    pub value: usize,
+    pub next: usize,
 }
 
-// A count and where it ends; or the number of the refusal.
-#[derive(Clone, Copy)]
-pub enum Counted {
-    Read(usize, usize),
-    Stopped(u32),
-}
-
-// Passes over a text.
-pub fn text(file: &[u8], at: usize, text: &[u8]) -> Place
+// Passes over a text, and answers the place after it.
+pub fn text(file: &[u8], at: usize, text: &[u8]) -> Result<usize, Refusal>
     ensures { result ≡ text_at text.now file.now at }
 {
     let mut q = at;
-    let mut i: usize = 0;
-    while i < text.len() {
+    for x in text {
         if file.len() <= q {
-            return Place::Stopped(11);
+            return Err(Refusal::Cut);
         }
-        if file[q] != text[i] {
-            return Place::Stopped(14);
+        if file[q] != *x {
+            return Err(Refusal::Text);
         }
         q += 1;
-        i += 1;
     }
-    Place::At(q)
+    Ok(q)
 }
 
 // Stores a text, and answers the place after it.
@@ -44,12 +37,9 @@ pub fn put_text(file: &mut [u8], at: usize, text: &[u8]) -> usize
     requires { at + length text.now ≤ length file.old }
     ensures { Stored file.old at text.now result file.new }
 {
-    let mut i: usize = 0;
-    while i < text.len() {
-        file[at + i] = text[i];
-        i += 1;
-    }
-    at + i
+    let next = at + text.len();
+    file[at..next].copy_from_slice(text);
+    next
 }
 
 // Stores the digits of n, and answers the place after them.
@@ -75,7 +65,7 @@ pub fn count_digits(n: usize) -> usize
 }
 
 // Passes over the digits of n.
-fn digits_of(file: &[u8], at: usize, n: usize) -> Place
+fn digits_of(file: &[u8], at: usize, n: usize) -> Result<usize, Refusal>
     ensures { result ≡ text_at (digits n) file.now at }
 {
     let mut room = [0u8; 20];
@@ -84,20 +74,17 @@ fn digits_of(file: &[u8], at: usize, n: usize) -> Place
 }
 
 // Passes over the digits of n; where they are more than ten, no byte is right behind the first ten.
-pub fn number(file: &[u8], at: usize, n: usize) -> Place
+pub fn number(file: &[u8], at: usize, n: usize) -> Result<usize, Refusal>
     ensures { result ≡ number_at n file.now at }
 {
     if n < 10_000_000_000 {
         return digits_of(file, at, n);
     }
-    let first = digits_of(file, at, n / 10);
-    let Place::At(next) = first else {
-        return first;
-    };
+    let next = digits_of(file, at, n / 10)?;
     if file.len() <= next {
-        return Place::Stopped(11);
+        return Err(Refusal::Cut);
     }
-    Place::Stopped(14)
+    Err(Refusal::Text)
 }
 
 // The count whose first digit, not 0, was read as x: up to nine more digits.
@@ -106,42 +93,35 @@ fn more_digits(file: &[u8], at: usize, x: usize) -> Counted
     ensures { result ≡ more_at 9 file.now at x }
 {
     let mut value = x;
-    let mut q = at;
-    let mut left: usize = 9;
-    while 0 < left {
-        if file.len() <= q {
-            return Counted::Read(value, q);
+    let mut next = at;
+    for _ in 0..9usize {
+        if file.len() <= next {
+            break;
         }
-        let byte = lists::wide8(file[q]);
-        if byte < 48 {
-            return Counted::Read(value, q);
+        let byte = file[next];
+        if !byte.is_ascii_digit() {
+            break;
         }
-        if 57 < byte {
-            return Counted::Read(value, q);
-        }
-        value = 10 * value + (byte - 48);
-        q += 1;
-        left -= 1;
+        value = 10 * value + usize::from(byte - b'0');
+        next += 1;
     }
-    Counted::Read(value, q)
+    Counted { value, next }
 }
 
 // Reads a count: ten digits or less, the first of them 0 only where it is alone.
-pub fn count(file: &[u8], at: usize) -> Counted
+pub fn count(file: &[u8], at: usize) -> Result<Counted, Refusal>
     ensures { result ≡ count_at file.now at }
 {
     if file.len() <= at {
-        return Counted::Stopped(11);
+        return Err(Refusal::Cut);
     }
-    let byte = lists::wide8(file[at]);
-    if byte < 48 {
-        return Counted::Stopped(14);
+    let byte = file[at];
+    if !byte.is_ascii_digit() {
+        return Err(Refusal::Text);
     }
-    if 57 < byte {
-        return Counted::Stopped(14);
+    let next = at + 1;
+    if byte == b'0' {
+        return Ok(Counted { value: 0, next });
     }
-    if byte == 48 {
-        return Counted::Read(0, at + 1);
-    }
-    more_digits(file, at + 1, byte - 48)
+    Ok(more_digits(file, next, usize::from(byte - b'0')))
 }

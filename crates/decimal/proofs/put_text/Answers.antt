@@ -1,15 +1,10 @@
-use native.Mathlib.Omega.{arith}
-use Rattle.decimal.proofs.Texts.{putting_start, putting_on, putting_done}
+use mathlib.Core.Path.{refl, ap, ◌∙◌}
+use lib.ListN.{length}
+use lib.Seq.{sets}
+use Rattle.lists.proofs.Parts.{put_sets}
 use Rattle.decimal.proofs.put_text.Goals as goal
 
-pub loop-i-init : goal.loop-i-init
-loop-i-init c = putting_start _ _ _
-
-pub bounds-file-at : goal.bounds-file-at
-bounds-file-at c = omega (arith, c.loop-i.invariant.long)
-
-pub loop-i-preserved : goal.loop-i-preserved
-loop-i-preserved c = putting_on _ _ _ _ _ c.loop-i.invariant c.loop-i-test.true
-
 pub returns : goal.returns
-returns c = putting_done _ _ _ _ _ c.loop-i.invariant c.loop-i-test.false
+returns c =
+    let e = c.copy_from_slice.ensures.after in
+    record { count = refl; kept = put_sets c.args.at (length c.args.text.now) c.args.file.now _ (ap length e) c.requires ∙ ap (sets c.args.file.now c.args.at) e }
