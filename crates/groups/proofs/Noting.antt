@@ -17,9 +17,6 @@ use Rattle.groups.proofs.Highest.{Last, last_is}
 -- ---- one root
 
 module _ (C X w : List ℕ) (n i : ℕ) where
-  pub root_crossed : get_or X i 0 ≢ 0 → RootNoted C X w w n i
-  root_crossed d = record { crossed = λ e. refl; root = 0; noted = λ z. absurd (d z) }
-
   -- the parents were lent to find the root r, and are now P
   pub root_noted : (P : List ℕ) {v r : ℕ} → n ≤ length w → length P ≡ length (take n w) → v ≡ get_or C (i * 4) 0 → Rooted (take n w) P v r
       → get_or X i 0 ≡ 0 → RootNoted C X w (set (P ++ drop n w) (n + i) r) n i

@@ -6,6 +6,7 @@ use Prim.Native.Nat.{ℕ, ◌+◌, ◌/◌, ◌≤◌}
 use lib.ListN.{length, take}
 use lib.Seq.{length-take-le}
 use Rattle.refusals.specs.Rows.{first, proper}
+use Rattle.refusals.specs.Refusals.{as_refusal, named}
 use Rattle.refusals.specs.Causes.{work_rows, each_rows, answer_rows}
 use Rattle.refusals.proofs.Rows.{front_clear, rest_clear}
 use Rattle.refusals.proofs.Causes.{each_fits}
@@ -18,6 +19,10 @@ use Rattle.groups.specs.Parts.{Sized}
 pub crossed_proper : (p : ℕ) (C X : List ℕ) (room a b : ℕ) → proper (crossed_rows p C X room a b) ≡ true
 unfolding proper crossed_rows size_rows count_rows whole_rows work_rows each_rows answer_rows name_rows
 crossed_proper p C X room a b = refl
+
+pub crossed_named : (p : ℕ) (C X : List ℕ) (room a b : ℕ) → named (crossed_rows p C X room a b) ≡ true
+unfolding named as_refusal crossed_rows size_rows count_rows whole_rows work_rows each_rows answer_rows name_rows
+crossed_named p C X room a b = refl
 
 pub record Answered (p : ℕ) (C X : List ℕ) (room a b : ℕ) : Type 0 where
   pub mesh : Fitting p C room a b

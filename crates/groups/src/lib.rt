@@ -4,26 +4,31 @@
 
 ghost use Rattle.std.specs.Prelude.{◌≡◌, ◌+◌, ◌≤◌, ◌<◌, length, get_or};
 ghost use Rattle.refusals.specs.Rows.{first};
+ghost use Rattle.refusals.specs.Refusals.{number_in};
 ghost use Rattle.groups.specs.Judged.{crossed_rows};
 ghost use Rattle.groups.specs.Parts.{RootAsked, RootNoted, Linked, Rooting, LastAsked, LastNoted, Sized, Labelled};
 
-use lists::wide;
+use refusals::Refusal;
 
-// The number that a mesh with crossing answers is refused with by a step that asks `a` work entries a cell and `b` a point, and has `room`
-// of them: 4, 5, 6, 8, or 0. `points` is the length of the table of points.
-pub fn judge(points: usize, cells: &[u32], crossing: &[u8], room: usize, a: usize, b: usize) -> u32
+// What a mesh with crossing answers is refused with by a step that asks `a` work entries a cell and `b` a point, and has `room` of them:
+// 4, 5, 6, 8, or nothing. `points` is the length of the table of points.
+pub fn judge(
+    points: usize,
+    cells: &[u32],
+    crossing: &[u8],
+    room: usize,
+    a: usize,
+    b: usize,
+) -> Result<(), Refusal>
     requires { (a ≤ 16) × (b ≤ 2) }
-    ensures { result ≡ first (crossed_rows points cells.now crossing.now room a b) }
+    ensures { number_in result ≡ first (crossed_rows points cells.now crossing.now room a b) }
 {
-    let number = mesh::judge_sizes(points, cells.len(), room, a, b);
-    if number != 0 {
-        return number;
-    }
+    mesh::judge_sizes(points, cells.len(), room, a, b)?;
     if crossing.len() != cells.len() / 4 {
-        return 5;
+        return Err(Refusal::Length);
     }
     if !lists::all_at_most(crossing, 1) {
-        return 6;
+        return Err(Refusal::Byte);
     }
     mesh::judge_names(points, cells)
 }
@@ -36,7 +41,7 @@ fn note_root(cells: &[u32], crossing: &[u8], work: &mut [u32], n: usize, i: usiz
     if !links::is_free(crossing, i) {
         return;
     }
-    let v = wide(cells[i * 4]);
+    let v = cells[i * 4] as usize;
     let root = links::root(&mut work[..n], v);
     let at = n + i;
     work[at] = root as u32;
@@ -47,11 +52,8 @@ fn note_roots(cells: &[u32], crossing: &[u8], work: &mut [u32], n: usize)
     requires { Linked cells.now crossing.now work.old n }
     ensures { Rooting cells.now crossing.now work.new n }
 {
-    let many = cells.len() / 4;
-    let mut i: usize = 0;
-    while i < many {
+    for i in 0..cells.len() / 4 {
         note_root(cells, crossing, work, n, i);
-        i += 1;
     }
 }
 
@@ -64,7 +66,7 @@ fn note_last(crossing: &[u8], work: &mut [u32], n: usize, i: usize)
         return;
     }
     let at = n + i;
-    let root = wide(work[at]);
+    let root = work[at] as usize;
     work[root] = i as u32;
 }
 
@@ -73,11 +75,8 @@ fn note_lasts(cells: &[u32], crossing: &[u8], work: &mut [u32], n: usize)
     requires { Rooting cells.now crossing.now work.old n }
     ensures { Labelled cells.now crossing.now work.new n }
 {
-    let many = cells.len() / 4;
-    let mut i: usize = 0;
-    while i < many {
+    for i in 0..cells.len() / 4 {
         note_last(crossing, work, n, i);
-        i += 1;
     }
 }
 
@@ -96,6 +95,6 @@ pub fn label_at(work: &[u32], n: usize, i: usize) -> usize
     requires { (n + i < length work.now) × (get_or work.now (n + i) 0 < length work.now) }
     ensures { result ≡ get_or work.now (get_or work.now (n + i) 0) 0 }
 {
-    let root = wide(work[n + i]);
-    wide(work[root])
+    let root = work[n + i] as usize;
+    work[root] as usize
 }

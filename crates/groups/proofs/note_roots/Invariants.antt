@@ -1,11 +1,7 @@
 use mathlib.Core.Path.{◌≡◌}
-use Prim.Native.Nat.{◌-◌, ◌/◌}
 use lib.ListN.{length}
 use Rattle.groups.proofs.Noting.{Noting}
 use Rattle.groups.proofs.note_roots.Given as goal
 
 abbrev pub invariant-loop-i : goal.invariant-loop-i
-invariant-loop-i l = (l.many ≡ length l.cells / 4) × (length l.work ≡ length l.initial.work) × Noting l.cells l.crossing l.work l.n l.i
-
-abbrev pub decreases-loop-i : goal.decreases-loop-i
-decreases-loop-i l = length l.cells / 4 - l.i
+invariant-loop-i l = (length l.work ≡ length l.initial.work) × Noting l.cells l.crossing l.work l.n l.i
