@@ -1,4 +1,4 @@
--- The turns of `mark_crust` and `mark_cover`. Assumes nothing.
+-- Marks as the code has them, and the turns of `mark_crust` and `mark_cover`. Assumes nothing.
 use mathlib.Core.Path.{◌≡◌, refl, sym, ap, subst, ◌∙◌}
 use mathlib.Core.Logic.{◌⊎◌, inl, inr, ◌≢◌}
 use mathlib.Core.Bool.{Bool, true, false, not, ◌||◌}
@@ -8,6 +8,7 @@ use native.Mathlib.Nat.{not-suc-le-zero}
 use native.Mathlib.Omega.{arith}
 use borrow.Author.Tests.{ne_eqb}
 use lib.Dec.{eqb}
+use mir.Val.{bool_byte}
 use lib.ListN.{get_or, set, take, drop, length-set, length-drop}
 use lib.Seq.{get_or-set_other, take-set-le, drop-set-add, get_or-take, get_or-drop}
 use Rattle.lists.specs.Tests.{bit}
@@ -19,6 +20,11 @@ use Rattle.groups.proofs.Highest.{label_below}
 use Rattle.marked.specs.Parts.{marked_in}
 use Rattle.keep.specs.Marked.{crust_mark, is_inside, cover_mark}
 use Rattle.keep.specs.Parts.{cover_in, ProbeAsked, CoverAsked, MarksOf}
+
+-- a test as a number, as the code has it
+pub as_bit : (b : Bool) → bool_byte b ≡ bit b
+as_bit true = refl
+as_bit false = refl
 
 -- ---- marks, one after the other
 

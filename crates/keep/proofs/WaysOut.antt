@@ -9,12 +9,17 @@ use lib.Dec.{eqb, ltb}
 use lib.Ieee.{Float}
 use lib.ListN.{length, take, drop, replicate}
 use lib.Seq.{length-take-le, length_front, take_at, take-take, drop-append-add, drop-drop}
+use Rattle.std.specs.Prelude.{Result, Ok, Err}
 use Rattle.lists.specs.Tables.{among, all_from}
 use Rattle.lists.proofs.Cases.{eq_or}
 use Rattle.lists.proofs.Lent.{as_lent, as_lent_below}
 use Rattle.refusals.specs.Rows.{first, proper, under}
 use Rattle.refusals.specs.Causes.{work_rows, each_rows, answer_rows}
+use Rattle.refusals.specs.Refusals.{as_number, as_refusal}
+use Rattle.refusals.specs.declared.Refusal.{Refusal}
+use Rattle.refusals.specs.declared.Refusal.TheVariants.{NothingKept}
 use Rattle.refusals.proofs.Rows.{front_clear, rest_clear, unless_none, unless_some, first_under}
+use Rattle.refusals.proofs.Refusals.{above_none, handed_up}
 use Rattle.refusals.proofs.Causes.{each_fits}
 use Rattle.plan.specs.Step.{cell_size_rows}
 use Rattle.mesh.specs.Mesh.{points_of, cells_of}
@@ -27,7 +32,8 @@ use Rattle.volume.specs.Volume.{least_of}
 use Rattle.marked.specs.Kept.{number_of, points_kept, cells_kept, kept_of, points_after, cells_after}
 use Rattle.marked.specs.Parts.{marked_in, KeptAs, KeptMarked}
 use Rattle.marked.specs.declared.Kept.{Kept}
-use Rattle.marked.specs.declared.Kept.TheVariants.{Done, Refused, Short, Nothing}
+use Rattle.marked.specs.declared.KeepError.{KeepError}
+use Rattle.marked.specs.declared.KeepError.TheVariants.{Refused, Short}
 use Rattle.marked.proofs.WaysOut.{kept_same}
 use Rattle.keep.specs.Step.{need_of, crust_rows, cover_rows, keep_of, work_after, KeepDone}
 use Rattle.keep.specs.Parts.{MarksOf, front_of, RestKept}
@@ -89,7 +95,7 @@ module _ (P C w : List ℕ) (f : Fitting (length P) C (length w) 1 2) where
       pub rest_laid : Laid P C (take (front_of P C) (take (need_of P C) lent)) (points_of P)
       rest_laid = rw front_again (record { points = refl; sized = m.sized })
 
-      pub rest_marked : {c : Float} {p q p' q' z : List ℕ} {r : Kept} → RestKept c P C p q (take (need_of P C) lent) r p' q' z
+      pub rest_marked : {c : Float} {p q p' q' z : List ℕ} {r : Result Kept KeepError} → RestKept c P C p q (take (need_of P C) lent) r p' q' z
           → KeptMarked P C mark (least_of c) p q r p' q'
       rest_marked k = k.kept mark (rw front_again m)
 
@@ -103,7 +109,7 @@ module _ (P C w : List ℕ) (f : Fitting (length P) C (length w) 1 2) where
         (ap (λ (k : ℕ). drop k lent) n ∙ drop-append-add s (drop (front_of P C) w) (points_of P) ∙ drop-drop (points_of P) (front_of P C) w ∙ ap (λ (k : ℕ). drop k w) m))
 
 -- what `keep_rest` keeps, whatever test the front of its work marks the cells by
-pub rest_kept : (c : Float) (P C p q w : List ℕ) {least : Float} {r : Kept} {p' q' : List ℕ} → least ≡ least_of c
+pub rest_kept : (c : Float) (P C p q w : List ℕ) {least : Float} {r : Result Kept KeepError} {p' q' : List ℕ} → least ≡ least_of c
     → KeptMarked P C (marked_in (drop (points_of P) (take (front_of P C) w))) least p q r p' q'
     → (mark : ℕ → Bool) → MarksOf mark C (take (front_of P C) w) (points_of P) → KeptMarked P C mark (least_of c) p q r p' q'
 rest_kept c P C p q w {r = r} {p' = p'} {q' = q'} e k mark m =
@@ -112,16 +118,17 @@ rest_kept c P C p q w {r = r} {p' = p'} {q' = q'} e k mark m =
 -- ---- the two ways out
 
 module _ (P C F : List ℕ) (lost : ℕ) (p q w : List ℕ) (number : ℕ) where
-  pub refused : {r : ℕ} → r ≡ number → r ≢ 0 → number < 9 → KeepDone (keep_of number F lost p q) P C F p q w (Refused r) p q w
+  pub refused : {why : Refusal} → as_number why ≡ number → number < 9 → KeepDone (keep_of number F lost p q) P C F p q w (Err (Refused why)) p q w
   unfolding keep_of all_from
-  refused {r} e d h =
-      let a : keep_of number F lost p q ≡ Refused r = rw (← e) (unless_some r Refused _ d) in
+  refused {why} e h =
+      let a : keep_of number F lost p q ≡ Err (Refused why) = handed_up (λ z. Err (Refused z)) _ why e in
+      let d = above_none why in
       rw a
       (record {
         answer = refl;
-        points = sym (as_lent r _ p d);
-        cells = sym (as_lent r _ q d);
-        work = sym (as_lent_below 9 (9 ∷ 10 ∷ []) r _ w d (omega arith) refl);
+        points = sym (as_lent (as_number why) _ p d);
+        cells = sym (as_lent (as_number why) _ q d);
+        work = sym (as_lent_below 9 (9 ∷ 10 ∷ []) (as_number why) _ w d (omega arith) refl);
       })
 
   zero_after : work_after (kept_of F lost p q) P C w ≡ replicate (need_of P C) 0 ++ drop (need_of P C) w
@@ -129,35 +136,39 @@ module _ (P C F : List ℕ) (lost : ℕ) (p q w : List ℕ) (number : ℕ) where
   zero_after = go (ltb (length p / 3) (points_kept F)) (ltb (length q / 4) (cells_kept F)) (eqb (cells_kept F) 0)
     where
       go : (s t u : Bool)
-          → work_after (cond s (Short (points_kept F) (cells_kept F)) (cond t (Short (points_kept F) (cells_kept F)) (cond u Nothing (Done (points_kept F) (cells_kept F) lost)))) P C w
+          → work_after
+          (cond s (Err (Short (points_kept F) (cells_kept F)))
+          (cond t (Err (Short (points_kept F) (cells_kept F)))
+          (cond u (Err (Refused NothingKept)) (Ok (record { points = points_kept F; cells = cells_kept F; dropped = lost }))))) P C w
           ≡ replicate (need_of P C) 0 ++ drop (need_of P C) w
       go true t u = refl
       go false true u = refl
       go false false true = refl
       go false false false = refl
 
-  pub kept : {r : Kept} {p' q' w' : List ℕ} → number ≡ 0 → KeptAs P F lost p q r p' q' → w' ≡ replicate (need_of P C) 0 ++ drop (need_of P C) w
+  pub kept : {r : Result Kept KeepError} {p' q' w' : List ℕ} → number ≡ 0 → KeptAs P F lost p q r p' q' → w' ≡ replicate (need_of P C) 0 ++ drop (need_of P C) w
       → KeepDone (keep_of number F lost p q) P C F p q w r p' q' w'
   unfolding keep_of
   kept z k e =
-      let a : keep_of number F lost p q ≡ kept_of F lost p q = unless_none number Refused _ z in
+      let a : keep_of number F lost p q ≡ kept_of F lost p q = unless_none number _ _ z in
       rw a (record { answer = k.answer; points = k.points; cells = k.cells; work = e ∙ sym zero_after })
 
   -- an answer is that of the mesh kept
-  pub answer_kept : {r : Kept} {p' q' w' : List ℕ} {points cells dropped : ℕ} → KeepDone (keep_of number F lost p q) P C F p q w r p' q' w'
-      → r ≡ Done points cells dropped → KeptAs P F lost p q r p' q'
+  pub answer_kept : {r : Result Kept KeepError} {p' q' w' : List ℕ} {points cells dropped : ℕ} → KeepDone (keep_of number F lost p q) P C F p q w r p' q' w'
+      → r ≡ Ok (record { points = points; cells = cells; dropped = dropped }) → KeptAs P F lost p q r p' q'
   unfolding keep_of
   answer_kept {r} {p'} {q'} d e = go (eq_or number 0)
     where
       go : (number ≡ 0) ⊎ (number ≢ 0) → KeptAs P F lost p q r p' q'
       go (inl z) =
-          let a : keep_of number F lost p q ≡ kept_of F lost p q = unless_none number Refused _ z in
+          let a : keep_of number F lost p q ≡ kept_of F lost p q = unless_none number _ _ z in
           record {
             answer = d.answer ∙ a;
-            points = d.points ∙ ap (λ (k : Kept). points_after k P F p) a;
-            cells = d.cells ∙ ap (λ (k : Kept). cells_after k F q) a;
+            points = d.points ∙ ap (λ (k : Result Kept KeepError). points_after k P F p) a;
+            cells = d.cells ∙ ap (λ (k : Result Kept KeepError). cells_after k F q) a;
           }
-      go (inr n) = absurd (n (sym (ap number_of (unless_some number Refused (kept_of F lost p q) n)) ∙ ap number_of (sym d.answer ∙ e)))
+      go (inr n) =
+          absurd (above_none (as_refusal number) (sym (ap number_of (unless_some number _ (kept_of F lost p q) n)) ∙ ap number_of (sym d.answer ∙ e)))
 
 pub crust_low : (c : Float) (p : ℕ) (C X : List ℕ) (room : ℕ) → first (crust_rows c p C X room) < 9
 unfolding crust_rows crossed_rows size_rows count_rows whole_rows work_rows each_rows answer_rows name_rows under

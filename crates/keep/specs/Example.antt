@@ -4,6 +4,7 @@ use Rattle.std.specs.Float.Ieee.{of_bits, add, sub, mul, div, neg, lt}
 use Rattle.float32.specs.Operations.{f32}
 use Rattle.refusals.specs.Rows.{first, unless}
 use Rattle.refusals.specs.Causes.{work_rows, each_rows, answer_rows}
+use Rattle.refusals.specs.Refusals.{as_refusal}
 use Rattle.mesh.specs.Judged.{count_rows, whole_rows, size_rows, name_rows}
 use Rattle.lists.specs.Tables.{all_below, among}
 use Rattle.lists.specs.Runs.{run, those, spread}
@@ -81,5 +82,5 @@ asked k =
     (points_after a k.points F p) (cells_after a F q) (work_after a k.points k.cells w)
 
 examples : map asked table ≡ table
-unfolding of_bits add sub mul div neg lt first unless count_rows whole_rows work_rows size_rows each_rows answer_rows name_rows all_below among run those spread place noted any shares touched taken_over add_cell labels label_at cell_of in_order point_of corners_of volume_of size_of verdict_of verdict_at first_uses used_of renumbered point_bits points_at shaped is_dropped shape_at drops_at final_cells dropped_count kept_of crust_mark is_inside cover_mark cover_rows keep_of
+unfolding of_bits add sub mul div neg lt first unless as_refusal count_rows whole_rows work_rows size_rows each_rows answer_rows name_rows all_below among run those spread place noted any shares touched taken_over add_cell labels label_at cell_of in_order point_of corners_of volume_of size_of verdict_of verdict_at first_uses used_of renumbered point_bits points_at shaped is_dropped shape_at drops_at final_cells dropped_count kept_of crust_mark is_inside cover_mark cover_rows keep_of
 examples = refl

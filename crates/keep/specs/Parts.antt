@@ -1,10 +1,11 @@
 -- What the parts of the code ask and give. In the work table w the entries for m points stand in front, and behind them one for each cell.
-use Rattle.std.specs.Prelude.{◌≡◌, Bool, not, ◌||◌, List, ℕ, ◌+◌, ◌<◌, eqb, Float, length, get_or, take, drop, replicate}
+use Rattle.std.specs.Prelude.{◌≡◌, Bool, not, ◌||◌, List, ℕ, ◌+◌, ◌<◌, eqb, Float, length, get_or, take, drop, replicate, Result}
 use Rattle.mesh.specs.Mesh.{points_of, cells_of}
 use Rattle.groups.specs.Parts.{Sized, Labelled}
 use Rattle.volume.specs.Volume.{least_of}
 use Rattle.marked.specs.Parts.{marked_in, KeptMarked}
 use Rattle.marked.specs.declared.Kept.{Kept}
+use Rattle.marked.specs.declared.KeepError.{KeepError}
 use Rattle.keep.specs.Marked.{crust_mark}
 
 -- a cell is crossed or inside, by the work table
@@ -35,6 +36,6 @@ abbrev pub front_of : List ℕ → List ℕ → ℕ
 front_of P C = points_of P + cells_of C
 
 -- whatever test the front marks the cells by, those are kept, and the work is left zero
-pub record RestKept (c : Float) (P C p q w : List ℕ) (r : Kept) (p' q' w' : List ℕ) : Type 0 where
+pub record RestKept (c : Float) (P C p q w : List ℕ) (r : Result Kept KeepError) (p' q' w' : List ℕ) : Type 0 where
   pub zero : w' ≡ replicate (length w) 0
   pub kept : (mark : ℕ → Bool) → MarksOf mark C (take (front_of P C) w) (points_of P) → KeptMarked P C mark (least_of c) p q r p' q'

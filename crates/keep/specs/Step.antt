@@ -1,6 +1,6 @@
 -- The two steps (rules 7.5 to 7.11): what is refused and why, what is answered, and what the lent tables hold after. P is the table of
 -- points, C that of cells, X that of crossing answers, Q that of probe answers, p and q the tables for points and cells kept, w the work.
-use Rattle.std.specs.Prelude.{◌≡◌, List, [], ◌∷◌, ◌++◌, ℕ, ◌+◌, ◌*◌, ◌/◌, Float, length}
+use Rattle.std.specs.Prelude.{◌≡◌, List, [], ◌∷◌, ◌++◌, ℕ, ◌+◌, ◌*◌, ◌/◌, Float, length, Result}
 use Rattle.lists.specs.Tables.{zeroed, on}
 use Rattle.refusals.specs.Rows.{Row, first, unless}
 use Rattle.refusals.specs.Causes.{each_rows, answer_rows}
@@ -10,9 +10,9 @@ use Rattle.mesh.specs.Judged.{size_rows, name_rows}
 use Rattle.volume.specs.Volume.{least_of}
 use Rattle.groups.specs.Judged.{crossed_rows}
 use Rattle.marked.specs.Weighed.{final_cells, dropped_count}
-use Rattle.marked.specs.Kept.{number_of, kept_rows, kept_of, points_after, cells_after}
+use Rattle.marked.specs.Kept.{number_of, refused, kept_rows, kept_of, points_after, cells_after}
 use Rattle.marked.specs.declared.Kept.{Kept}
-use Rattle.marked.specs.declared.Kept.TheVariants.{Refused}
+use Rattle.marked.specs.declared.KeepError.{KeepError}
 use Rattle.keep.specs.Marked.{crust_mark, cover_mark}
 
 -- entries of work: one a cell, and two a point
@@ -58,28 +58,28 @@ abbrev pub keep_cover_rows : Float → List ℕ → List ℕ → List ℕ → Li
 keep_cover_rows c P C X Q p q w = cover_rows c (length P) C X Q (length w) 2 ++ kept_rows (cover_cells c P C X Q) p q
 
 -- the answer, where the first refusal found before the cells are looked at has this number, or 0
-unfoldable pub keep_of : ℕ → List ℕ → ℕ → List ℕ → List ℕ → Kept
-keep_of number F dropped p q = unless number Refused (kept_of F dropped p q)
+unfoldable pub keep_of : ℕ → List ℕ → ℕ → List ℕ → List ℕ → Result Kept KeepError
+keep_of number F dropped p q = unless number refused (kept_of F dropped p q)
 
-abbrev pub crust_of : Float → List ℕ → List ℕ → List ℕ → List ℕ → List ℕ → List ℕ → Kept
+abbrev pub crust_of : Float → List ℕ → List ℕ → List ℕ → List ℕ → List ℕ → List ℕ → Result Kept KeepError
 crust_of c P C X p q w = keep_of (first (crust_rows c (length P) C X (length w))) (crust_cells c P C X) (crust_dropped c P C X) p q
 
-abbrev pub cover_of : Float → List ℕ → List ℕ → List ℕ → List ℕ → List ℕ → List ℕ → List ℕ → Kept
+abbrev pub cover_of : Float → List ℕ → List ℕ → List ℕ → List ℕ → List ℕ → List ℕ → List ℕ → Result Kept KeepError
 cover_of c P C X Q p q w = keep_of (first (cover_rows c (length P) C X Q (length w) 2)) (cover_cells c P C X Q) (cover_dropped c P C X Q) p q
 
 -- the work after: its entries zero on an answer, on 9 and on 10, else as lent
-abbrev pub work_after : Kept → List ℕ → List ℕ → List ℕ → List ℕ
+abbrev pub work_after : Result Kept KeepError → List ℕ → List ℕ → List ℕ → List ℕ
 work_after a P C w = on (0 ∷ 9 ∷ 10 ∷ []) (number_of a) (zeroed (need_of P C) w) w
 
 -- the outcome of either step, whose answer is to be a, and whose cells before compaction are F
-pub record KeepDone (a : Kept) (P C F p q w : List ℕ) (r : Kept) (p' q' w' : List ℕ) : Type 0 where
+pub record KeepDone (a : Result Kept KeepError) (P C F p q w : List ℕ) (r : Result Kept KeepError) (p' q' w' : List ℕ) : Type 0 where
   pub answer : r ≡ a
   pub points : p' ≡ points_after a P F p
   pub cells : q' ≡ cells_after a F q
   pub work : w' ≡ work_after a P C w
 
-abbrev pub CrustDone : Float → (P C X p q w : List ℕ) → Kept → (p' q' w' : List ℕ) → Type 0
+abbrev pub CrustDone : Float → (P C X p q w : List ℕ) → Result Kept KeepError → (p' q' w' : List ℕ) → Type 0
 CrustDone c P C X p q w r p' q' w' = KeepDone (crust_of c P C X p q w) P C (crust_cells c P C X) p q w r p' q' w'
 
-abbrev pub CoverDone : Float → (P C X Q p q w : List ℕ) → Kept → (p' q' w' : List ℕ) → Type 0
+abbrev pub CoverDone : Float → (P C X Q p q w : List ℕ) → Result Kept KeepError → (p' q' w' : List ℕ) → Type 0
 CoverDone c P C X Q p q w r p' q' w' = KeepDone (cover_of c P C X Q p q w) P C (cover_cells c P C X Q) p q w r p' q' w'

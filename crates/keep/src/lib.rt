@@ -4,20 +4,28 @@
 ghost use Rattle.std.specs.Prelude.{◌≡◌, ◌≤◌, ◌<◌, length, take};
 ghost use Rattle.lists.specs.Tests.{bit};
 ghost use Rattle.refusals.specs.Rows.{first};
+ghost use Rattle.refusals.specs.Refusals.{number_in};
 ghost use Rattle.mesh.specs.Mesh.{points_of, cells_of};
 ghost use Rattle.groups.specs.Parts.{Sized, Laid};
 ghost use Rattle.keep.specs.Marked.{crust_mark, cover_mark};
 ghost use Rattle.keep.specs.Step.{crust_rows, cover_rows, CrustDone, CoverDone};
 ghost use Rattle.keep.specs.Parts.{cover_in, ProbeAsked, CoverAsked, MarksOf, InsideAsked, front_of, RestKept};
 
-use marked::Kept;
+use marked::{KeepError, Kept};
+use refusals::Refusal;
 
-// The number that Crust is refused with, where `points` is the length of the table of points and `room` that of the work: 1, 4, 5, 6, 8, or 0.
-fn judge_crust(c: f32, points: usize, cells: &[u32], crossing: &[u8], room: usize) -> u32
-    ensures { result ≡ first (crust_rows c points cells.now crossing.now room) }
+// What Crust is refused with, where `points` is the length of the table of points and `room` that of the work: 1, 4, 5, 6, 8, or nothing.
+fn judge_crust(
+    c: f32,
+    points: usize,
+    cells: &[u32],
+    crossing: &[u8],
+    room: usize,
+) -> Result<(), Refusal>
+    ensures { number_in result ≡ first (crust_rows c points cells.now crossing.now room) }
 {
     if !float32::is_size(c) {
-        return 1;
+        return Err(Refusal::CellSize);
     }
     groups::judge(points, cells, crossing, room, 1, 2)
 }
@@ -31,28 +39,25 @@ pub fn judge_cover(
     probe: &[u8],
     room: usize,
     b: usize,
-) -> u32
+) -> Result<(), Refusal>
     requires { b ≤ 2 }
-    ensures { result ≡ first (cover_rows c points cells.now crossing.now probe.now room b) }
+    ensures { number_in result ≡ first (cover_rows c points cells.now crossing.now probe.now room b) }
 {
     if !float32::is_size(c) {
-        return 1;
+        return Err(Refusal::CellSize);
     }
-    let number = mesh::judge_sizes(points, cells.len(), room, 1, b);
-    if number != 0 {
-        return number;
-    }
+    mesh::judge_sizes(points, cells.len(), room, 1, b)?;
     if crossing.len() != cells.len() / 4 {
-        return 5;
+        return Err(Refusal::Length);
     }
     if probe.len() != cells.len() / 4 {
-        return 5;
+        return Err(Refusal::Length);
     }
     if !lists::all_at_most(crossing, 1) {
-        return 6;
+        return Err(Refusal::Byte);
     }
     if !lists::all_at_most(probe, 1) {
-        return 6;
+        return Err(Refusal::Byte);
     }
     mesh::judge_names(points, cells)
 }
@@ -62,10 +67,7 @@ fn crust_mark(crossing: &[u8], i: usize) -> u32
     requires { i < length crossing.now }
     ensures { result ≡ bit (crust_mark crossing.now i) }
 {
-    if crossing[i] == 0 {
-        return 0;
-    }
-    1
+    u32::from(crossing[i] != 0)
 }
 
 // 1 where Cover keeps the cell i: it is crossed, or the probe answer of the highest cell of its group is 1.
@@ -77,10 +79,7 @@ fn cover_mark(crossing: &[u8], probe: &[u8], work: &[u32], n: usize, i: usize) -
         return 1;
     }
     let label = groups::label_at(work, n, i);
-    if probe[label] == 0 {
-        return 0;
-    }
-    1
+    u32::from(probe[label] != 0)
 }
 
 // Marks the cells that Crust keeps, in the entries behind the first n.
@@ -88,28 +87,20 @@ fn mark_crust(cells: &[u32], crossing: &[u8], work: &mut [u32], n: usize)
     requires { Sized cells.now work.old n × (length crossing.now ≡ cells_of cells.now) }
     ensures { MarksOf (crust_mark crossing.now) cells.now work.new n }
 {
-    let many = cells.len() / 4;
-    let mut i: usize = 0;
-    while i < many {
-        let mark = crust_mark(crossing, i);
-        let at = n + i;
-        work[at] = mark;
-        i += 1;
+    for i in 0..cells.len() / 4 {
+        work[n + i] = crust_mark(crossing, i);
     }
 }
 
-// Marks the cells that Cover keeps, in the entries behind the first n, which had the groups.
+// Marks the cells that Cover keeps, in the entries behind the first n, which had the groups. A loop of its own: this mark is read from the
+// table that is written.
 fn mark_cover(cells: &[u32], crossing: &[u8], probe: &[u8], work: &mut [u32], n: usize)
     requires { CoverAsked cells.now crossing.now probe.now work.old n }
     ensures { MarksOf (cover_mark cells.now crossing.now probe.now (cells_of cells.now)) cells.now work.new n }
 {
-    let many = cells.len() / 4;
-    let mut i: usize = 0;
-    while i < many {
+    for i in 0..cells.len() / 4 {
         let mark = cover_mark(crossing, probe, work, n, i);
-        let at = n + i;
-        work[at] = mark;
-        i += 1;
+        work[n + i] = mark;
     }
 }
 
@@ -130,7 +121,7 @@ fn keep_rest(
     kept_points: &mut [u32],
     kept_cells: &mut [u32],
     work: &mut [u32],
-) -> Kept
+) -> Result<Kept, KeepError>
     requires { Laid points.now cells.now (take (front_of points.now cells.now) work.old) (points_of points.now) }
     ensures { RestKept c points.now cells.now kept_points.old kept_cells.old work.old result kept_points.new kept_cells.new work.new }
 {
@@ -146,7 +137,7 @@ fn keep_rest(
         n,
         least,
     );
-    lists::zero(work);
+    work.fill(0);
     answer
 }
 
@@ -162,13 +153,10 @@ pub fn keep_cover(
     kept_points: &mut [u32],
     kept_cells: &mut [u32],
     work: &mut [u32],
-) -> Kept
+) -> Result<Kept, KeepError>
     ensures { CoverDone c points.now cells.now crossing.now probe.now kept_points.old kept_cells.old work.old result kept_points.new kept_cells.new work.new }
 {
-    let number = judge_cover(c, points.len(), cells, crossing, probe, work.len(), 2);
-    if number != 0 {
-        return Kept::Refused(number);
-    }
+    judge_cover(c, points.len(), cells, crossing, probe, work.len(), 2)?;
     let n = points.len() / 3;
     let many = cells.len() / 4;
     let front = n + many;
@@ -186,13 +174,10 @@ pub fn keep_crust(
     kept_points: &mut [u32],
     kept_cells: &mut [u32],
     work: &mut [u32],
-) -> Kept
+) -> Result<Kept, KeepError>
     ensures { CrustDone c points.now cells.now crossing.now kept_points.old kept_cells.old work.old result kept_points.new kept_cells.new work.new }
 {
-    let number = judge_crust(c, points.len(), cells, crossing, work.len());
-    if number != 0 {
-        return Kept::Refused(number);
-    }
+    judge_crust(c, points.len(), cells, crossing, work.len())?;
     let n = points.len() / 3;
     let many = cells.len() / 4;
     let front = n + many;

@@ -1,8 +1,10 @@
+use mathlib.Core.Path.{◌∙◌}
 use native.Mathlib.Omega.{arith}
-use borrow.Author.Tests.{eqb-true, eq-eqb, ne_eqb}
+use borrow.Author.Tests.{eqb-true}
 use Rattle.lists.proofs.Tests.{failed, passed}
 use Rattle.keep.specs.Marked.{crust_mark}
 use Rattle.keep.specs.Parts.{cover_in}
+use Rattle.keep.proofs.Marking.{as_bit}
 use Rattle.keep.proofs.cover_mark.Goals as goal
 
 pub returns-then-not-is_free : goal.returns-then-not-is_free
@@ -15,10 +17,7 @@ label_at-label-requires c = (c.requires.inside, c.requires.root (eqb-true _ _ (p
 pub bounds-probe-label : goal.bounds-probe-label
 bounds-probe-label c = omega (arith, c.label_at-label.ensures, c.requires.label (eqb-true _ _ (passed c.is_free.ensures c.if-not-is_free.false)))
 
-pub returns-then-probe-label-eq0 : goal.returns-then-probe-label-eq0
-unfolding cover_in crust_mark
-returns-then-probe-label-eq0 c = rw (passed c.is_free.ensures c.if-not-is_free.false, ← c.label_at-label.ensures, eq-eqb _ _ c.if-probe-label-eq0.true)
-
 pub returns : goal.returns
 unfolding cover_in crust_mark
-returns c = rw (passed c.is_free.ensures c.if-not-is_free.false, ← c.label_at-label.ensures, ne_eqb _ _ c.if-probe-label-eq0.false)
+returns c =
+    rw (passed c.is_free.ensures c.if-not-is_free.false, ← c.label_at-label.ensures) (c.from.ensures ∙ as_bit _)

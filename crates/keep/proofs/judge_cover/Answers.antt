@@ -1,4 +1,6 @@
-use mathlib.Core.Path.{sym, ◌∙◌}
+use mathlib.Core.Path.{refl, sym}
+use Rattle.std.proofs.lemmas.Result.{err_from_is_err_and}
+use Rattle.refusals.proofs.Refusals.{above_none}
 use borrow.Author.Tests.{eq-eqb, ne_eqb}
 use Rattle.lists.proofs.Tests.{failed, passed}
 use Rattle.refusals.specs.Rows.{first}
@@ -13,16 +15,18 @@ pub returns-then-not-is_size : goal.returns-then-not-is_size
 unfolding cover_rows first
 returns-then-not-is_size c = rw (failed c.is_size.ensures c.if-not-is_size.true)
 
-pub returns-then-number-ne0 : goal.returns-then-number-ne0
+pub returns-in_err-judge_sizes : goal.returns-in_err-judge_sizes
 unfolding cover_rows first
-returns-then-number-ne0 c = rw (passed c.is_size.ensures c.if-not-is_size.false) (stops (size_rows _ _ _ _ _) _ c.judge_sizes-number.ensures c.if-number-ne0.true)
+returns-in_err-judge_sizes c =
+    let p = err_from_is_err_and c.from_residual.result c.from_residual.ensures.1 in
+    rw (p.1, p.2, passed c.is_size.ensures c.if-not-is_size.false) (stops (size_rows _ _ _ _ _) _ c.in_err-judge_sizes.ensures (above_none _))
 
 pub returns-then-crossing-cells : goal.returns-then-crossing-cells
 unfolding cover_rows first each_rows
 returns-then-crossing-cells c =
     rw (
       passed c.is_size.ensures c.if-not-is_size.false,
-      goes_on _ _ (sizes_proper _ _ _ _ _) c.judge_sizes-number.ensures c.if-number-ne0.false,
+      goes_on _ _ (sizes_proper _ _ _ _ _) c.in_ok-judge_sizes.ensures refl,
       ne_eqb _ _ c.if-crossing-cells.true,
     )
 
@@ -31,7 +35,7 @@ unfolding cover_rows first each_rows
 returns-then-probe-cells c =
     rw (
       passed c.is_size.ensures c.if-not-is_size.false,
-      goes_on _ _ (sizes_proper _ _ _ _ _) c.judge_sizes-number.ensures c.if-number-ne0.false,
+      goes_on _ _ (sizes_proper _ _ _ _ _) c.in_ok-judge_sizes.ensures refl,
       eq-eqb _ _ c.if-crossing-cells.false,
       ne_eqb _ _ c.if-probe-cells.true,
     )
@@ -41,7 +45,7 @@ unfolding cover_rows first each_rows answer_rows
 returns-then-not-all_at_most c =
     rw (
       passed c.is_size.ensures c.if-not-is_size.false,
-      goes_on _ _ (sizes_proper _ _ _ _ _) c.judge_sizes-number.ensures c.if-number-ne0.false,
+      goes_on _ _ (sizes_proper _ _ _ _ _) c.in_ok-judge_sizes.ensures refl,
       eq-eqb _ _ c.if-crossing-cells.false,
       eq-eqb _ _ c.if-probe-cells.false,
       failed c.all_at_most.ensures c.if-not-all_at_most.true,
@@ -52,7 +56,7 @@ unfolding cover_rows first each_rows answer_rows
 returns-then-not-all_at_most-2 c =
     rw (
       passed c.is_size.ensures c.if-not-is_size.false,
-      goes_on _ _ (sizes_proper _ _ _ _ _) c.judge_sizes-number.ensures c.if-number-ne0.false,
+      goes_on _ _ (sizes_proper _ _ _ _ _) c.in_ok-judge_sizes.ensures refl,
       eq-eqb _ _ c.if-crossing-cells.false,
       eq-eqb _ _ c.if-probe-cells.false,
       passed c.all_at_most.ensures c.if-not-all_at_most.false,
@@ -60,14 +64,14 @@ returns-then-not-all_at_most-2 c =
     )
 
 pub judge_names-requires : goal.judge_names-requires
-judge_names-requires c = (sizes_fit _ _ _ _ _ (sym c.judge_sizes-number.ensures ∙ c.if-number-ne0.false)).few_points
+judge_names-requires c = (sizes_fit _ _ _ _ _ (sym c.in_ok-judge_sizes.ensures)).few_points
 
 pub returns : goal.returns
 unfolding cover_rows first each_rows answer_rows
 returns c =
     rw (
       passed c.is_size.ensures c.if-not-is_size.false,
-      goes_on _ _ (sizes_proper _ _ _ _ _) c.judge_sizes-number.ensures c.if-number-ne0.false,
+      goes_on _ _ (sizes_proper _ _ _ _ _) c.in_ok-judge_sizes.ensures refl,
       eq-eqb _ _ c.if-crossing-cells.false,
       eq-eqb _ _ c.if-probe-cells.false,
       passed c.all_at_most.ensures c.if-not-all_at_most.false,

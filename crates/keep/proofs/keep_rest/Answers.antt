@@ -17,6 +17,6 @@ returns c =
     let s = c.args in
     let k = c.keep_marked-answer in
     record {
-      zero = c.zero.ensures ∙ ap (λ (m : ℕ). replicate m 0) (length_front s.work.now k.new.work (front_of s.points.now s.cells.now) k.auto.work);
+      zero = c.fill.ensures.after (λ y e. e) ∙ ap (λ (m : ℕ). replicate m 0) (length_front s.work.now k.new.work (front_of s.points.now s.cells.now) k.auto.work);
       kept = rest_kept _ _ _ _ _ _ c.least_volume-least.ensures k.ensures;
     }
