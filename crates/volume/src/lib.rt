@@ -71,6 +71,7 @@ fn volume(k: Corners) -> f32
     dot(cross(minus(k.b, k.a), minus(k.c, k.a)), minus(k.d, k.a)) / 6.0
 }
 
+// The size of x. `abs` is another float where x is -0: 0, which `size_of` leaves -0.
 fn size(x: f32) -> f32
     ensures { result ≡ size_of x }
 {
@@ -103,9 +104,7 @@ fn volume_in(verdict: Verdict) -> f32
     ensures { result ≡ volume_in verdict }
 {
     match verdict {
-        Verdict::Kept(v) => v,
-        Verdict::Exchanged(v) => v,
-        Verdict::Dropped(v) => v,
+        Verdict::Kept(v) | Verdict::Exchanged(v) | Verdict::Dropped(v) => v,
     }
 }
 
