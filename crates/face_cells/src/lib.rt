@@ -7,7 +7,7 @@ ghost use Rattle.vertex_keys.specs.Keys.{most_keys};
 ghost use Rattle.vertex_keys.specs.Parts.{Lookup};
 ghost use Rattle.face_cells.specs.Parts.{rank_in, over_numbers, fan_numbers, halves_numbers, turned_numbers, face_numbers, low_face, high_face, axis_numbers, corners_at, from_next, leaf_numbers, Turns, AllTurn};
 
-use lists::store4;
+use lists::store_all;
 use sides::{Beside, Edges, Sides};
 use vertex_keys::{STRIDE_X, STRIDE_Y, find, near};
 
@@ -62,11 +62,11 @@ fn over(work: &[u64], vertices: usize, out: &mut [u32], at: usize, fine: bool, e
 {
     if fine {
         let n = find(work, vertices, e.m);
-        store4(out, at, e.p, e.q, e.a, n);
-        store4(out, at + 4, e.p, e.q, n, e.b);
+        store_all(out, at, [e.p, e.q, e.a, n]);
+        store_all(out, at + 4, [e.p, e.q, n, e.b]);
         at + 8
     } else {
-        store4(out, at, e.p, e.q, e.a, e.b);
+        store_all(out, at, [e.p, e.q, e.a, e.b]);
         at + 4
     }
 }
@@ -129,8 +129,8 @@ fn halves(out: &mut [u32], at: usize, c: u32, p: u32, q: u32, r: u32, s: u32) ->
     requires { Room out.old at (halves_numbers c p q r s) }
     ensures { Stored out.old at (halves_numbers c p q r s) result out.new }
 {
-    store4(out, at, c, p, q, r);
-    store4(out, at + 4, c, p, r, s);
+    store_all(out, at, [c, p, q, r]);
+    store_all(out, at + 4, [c, p, r, s]);
     at + 8
 }
 

@@ -3,7 +3,9 @@ use mathlib.Core.Path.{◌≡◌, refl, sym, ap, ap₂, ◌∙◌, subst}
 use mathlib.Core.List.{List}
 use Prim.Native.Nat.{ℕ, ◌+◌, ◌-◌, ◌*◌, ◌^◌, ◌≤◌, ◌<◌}
 use native.Mathlib.Omega.{arith}
-use lib.ListN.{length, get_or}
+use lib.ListN.{length, get_or, take, drop}
+use lib.Seq.{get_or-take}
+use Rattle.std.proofs.lemmas.List.{get_or-drop}
 use Rattle.space.specs.Space.{Pos}
 use Rattle.octree_cells.specs.Cells.{flat}
 use Rattle.octree_cells.specs.Leaf.{IsLeaf}
@@ -48,6 +50,10 @@ module _ (s : List ℕ) (d : Roots) (h : Taken s d) (z : ℕ) (leaf : ListedIn s
           ∙ rw (told, e, q) refl
 
 -- ---- the loop
+
+-- an entry of the list, which is lent as a part of the work
+pub entry_at : (w : List ℕ) (list leaves n : ℕ) → n < leaves → get_or (take (list + leaves - list) (drop list w)) n 0 ≡ get_or w (list + n) 0
+entry_at w list leaves n h = get_or-take (list + leaves - list) (drop list w) n 0 (omega arith) ∙ get_or-drop list w n 0
 
 module _ (s : List ℕ) (d : Roots) (w : List ℕ) (v list leaves : ℕ) where
   abbrev turn : ℕ → List ℕ

@@ -27,15 +27,19 @@ fn store_nine(work: &mut [u64], at: usize, k: u64, u: u64, v: u64, w: u64)
     let y = k + 2 * v;
     let z = k + 2 * w;
     let s = y + 2 * w;
-    work[at] = k + u + v + w;
-    work[at + 1] = s + 2 * u;
-    work[at + 2] = s;
-    work[at + 3] = z + 2 * u;
-    work[at + 4] = z;
-    work[at + 5] = y + 2 * u;
-    work[at + 6] = y;
-    work[at + 7] = k + 2 * u;
-    work[at + 8] = k;
+    let centre = k + u + v + w;
+    let keys = [
+        centre,
+        s + 2 * u,
+        s,
+        z + 2 * u,
+        z,
+        y + 2 * u,
+        y,
+        k + 2 * u,
+        k,
+    ];
+    work[at..at + 9].copy_from_slice(&keys);
 }
 
 // Half the width of a listed leaf.
@@ -70,12 +74,9 @@ pub fn leaf_keys(work: &mut [u64], list: usize, leaves: usize)
     requires all_placed { AllPlaced work.old list leaves }
     ensures { work.new ≡ sets work.old 0 (keys_from work.old list leaves) }
 {
-    let mut n: usize = 0;
-    while n < leaves {
-        let i = list + n;
-        let leaf = work[i];
+    for n in 0..leaves {
+        let leaf = work[list + n];
         store_keys(work, 9 * n, leaf);
-        n += 1;
     }
 }
 
@@ -112,12 +113,8 @@ pub fn store_cells(
     requires out_len { length out.old ≡ 4 * length (cells_in split.now d) }
     ensures { out.new ≡ flat (number_in work.now vertices) (cells_in split.now d) }
 {
-    let mut n: usize = 0;
     let mut at: usize = 0;
-    while n < leaves {
-        let i = list + n;
-        let leaf = work[i];
-        at = leaf_cells(split, d, work, vertices, leaf, out, at);
-        n += 1;
+    for leaf in &work[list..list + leaves] {
+        at = leaf_cells(split, d, work, vertices, *leaf, out, at);
     }
 }

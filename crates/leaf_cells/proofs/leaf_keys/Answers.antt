@@ -5,20 +5,8 @@ use Rattle.leaf_cells.proofs.leaf_keys.Goals as goal
 pub loop-n-init : goal.loop-n-init
 loop-n-init c = keying_start _ _ _
 
-pub overflow_add-i : goal.overflow_add-i
-overflow_add-i c = omega (arith, c.requires.leaves_in_bounds)
-
-pub bounds-work-i : goal.bounds-work-i
-bounds-work-i c = omega (arith, c.requires.leaves_in_bounds, c.loop-n.invariant.same)
-
-pub overflow_mul-n : goal.overflow_mul-n
-overflow_mul-n c = omega (arith, c.requires.leaves_in_bounds)
-
 pub store_keys-requires : goal.store_keys-requires
 store_keys-requires c = (omega (arith, c.requires.leaves_in_bounds, c.loop-n.invariant.same), keying_leaf _ _ _ _ _ c.loop-n.invariant c.requires.all_placed (omega arith))
-
-pub overflow_add-n : goal.overflow_add-n
-overflow_add-n c = omega (arith, c.requires.leaves_in_bounds)
 
 pub loop-n-preserved : goal.loop-n-preserved
 loop-n-preserved c = keying_on _ _ _ _ _ c.loop-n.invariant _ (omega arith) c.requires.leaves_in_bounds.1 c.store_keys.ensures

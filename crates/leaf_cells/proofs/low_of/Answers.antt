@@ -3,11 +3,8 @@ use Prim.Native.Nat.{ℕ, ◌*◌, ◌%◌}
 use native.Mathlib.Omega.{arith}
 use Rattle.vertex_keys.specs.Keys.{most_keys}
 use Rattle.leaf_cells.specs.Parts.{low_in}
-use Rattle.leaf_cells.proofs.Keys.{half_few, low_few}
+use Rattle.leaf_cells.proofs.Keys.{low_few}
 use Rattle.leaf_cells.proofs.low_of.Goals as goal
-
-pub overflow_mul-result : goal.overflow_mul-result
-overflow_mul-result c = omega (arith, half_few _ c.requires.0, c.requires.1)
 
 pub overflow_mul-result-2 : goal.overflow_mul-result-2
 overflow_mul-result-2 c =
