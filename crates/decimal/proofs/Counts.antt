@@ -321,11 +321,11 @@ module _ {A : Type 0} (c : Result Counted Refusal) (stop : Refusal → A) (next 
   unfolding on_count
   count_went v at e = rw e
 
-  pub count_halted : (q : Result Counted Refusal) (k : Refusal) → q ≡ c → q ≡ Err k → stop k ≡ on_count c stop next
-  count_halted q k e d = sym (count_stopped k (sym e ∙ d))
+  pub count_halted : (k : Refusal) → Err k ≡ c → stop k ≡ on_count c stop next
+  count_halted k e = sym (count_stopped k (sym e))
 
-  pub count_onwards : (q : Result Counted Refusal) (v at : ℕ) {r : A} → q ≡ c → q ≡ Ok (read v at) → r ≡ next v at → r ≡ on_count c stop next
-  count_onwards q v at e d f = f ∙ sym (count_went v at (sym e ∙ d))
+  pub count_onwards : (v at : ℕ) {r : A} → Ok (read v at) ≡ c → r ≡ next v at → r ≡ on_count c stop next
+  count_onwards v at e f = f ∙ sym (count_went v at (sym e))
 
   pub count_either_way : (P : A → Type 0) → ((k : Refusal) → c ≡ Err k → P (stop k)) → ((v at : ℕ) → c ≡ Ok (read v at) → P (next v at)) → P (on_count c stop next)
   count_either_way P no_way way = by_count c refl

@@ -18,6 +18,8 @@ use Rattle.decimal.specs.Digits.{digits, none_at, number_at}
 use Rattle.refusals.specs.declared.Refusal.{Refusal}
 use Rattle.refusals.specs.declared.Refusal.TheVariants.{Cut, Text}
 use Rattle.std.specs.Prelude.{Result, Ok, Err}
+use Rattle.std.specs.Result.{IsErrAnd}
+use Rattle.std.proofs.lemmas.Result.{err_from_is_err_and}
 
 -- ---- the loop that passes over a text
 
@@ -103,6 +105,10 @@ text_there (x ∷ t) rest b at e =
     let d : drop (suc at) b ≡ t ++ rest = ap (λ (k : ℕ). drop k b) (sym (add-one at)) ∙ drop_on (x ∷ []) (t ++ rest) b at e in
     rw (lt-ltb at (length b) i.0, eq-eqb _ _ i.1, n) (text_there t rest b (suc at) d)
 
+-- what a call was refused with is handed up
+pub exits : {T : Type 0} {r : Result T Refusal} {k : Refusal} → IsErrAnd r (λ y. y ≡ k) → r ≡ Err k
+exits {T} {r} h = let p = err_from_is_err_and r h in p.1 ∙ ap Err p.2
+
 -- ---- parts one behind another
 
 module _ {A : Type 0} (p : Result ℕ Refusal) (stop : Refusal → A) (next : ℕ → A) where
@@ -116,11 +122,11 @@ module _ {A : Type 0} (p : Result ℕ Refusal) (stop : Refusal → A) (next : �
   went at e = rw e
 
   -- the same for a call that answers the part
-  pub halted : (q : Result ℕ Refusal) (k : Refusal) → q ≡ p → q ≡ Err k → stop k ≡ on_place p stop next
-  halted q k e d = sym (stopped k (sym e ∙ d))
+  pub halted : (k : Refusal) → Err k ≡ p → stop k ≡ on_place p stop next
+  halted k e = sym (stopped k (sym e))
 
-  pub onwards : (q : Result ℕ Refusal) (at : ℕ) {r : A} → q ≡ p → q ≡ Ok at → r ≡ next at → r ≡ on_place p stop next
-  onwards q at e d f = f ∙ sym (went at (sym e ∙ d))
+  pub onwards : (at : ℕ) {r : A} → Ok at ≡ p → r ≡ next at → r ≡ on_place p stop next
+  onwards at e f = f ∙ sym (went at (sym e))
 
   -- what holds of both ways
   pub either_way : (P : A → Type 0) → ((k : Refusal) → p ≡ Err k → P (stop k)) → ((at : ℕ) → p ≡ Ok at → P (next at)) → P (on_place p stop next)

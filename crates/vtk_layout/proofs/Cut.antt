@@ -11,17 +11,16 @@ use lib.ListN.{length, get_or, take, drop, replicate, length-append, length-drop
 use lib.Seq.{drop-cons, length-take-le}
 use Rattle.lists.proofs.Cases.{lt_or, eq_or}
 use Rattle.decimal.specs.Text.{text_of, text_at, on_place}
-use Rattle.decimal.specs.Digits.{digits, number_at, count_at, on_count}
-use Rattle.decimal.specs.declared.Place.{Place}
-use Rattle.decimal.specs.declared.Place.TheVariants.{At, Stopped}
-use Rattle.decimal.specs.declared.Counted.{Counted}
-use Rattle.decimal.specs.declared.Counted.TheVariants as counted
+use Rattle.decimal.specs.Digits.{digits, number_at, count_at, on_count, read}
 use Rattle.decimal.proofs.Texts.{Missing, text_cut, text_found, number_low, either_way, never_at, other_stop, went}
 use Rattle.decimal.proofs.Counts.{count_cut, count_went, count_either_way}
+use Rattle.std.specs.Prelude.{Result, Ok, Err}
+use Rattle.decimal.specs.declared.Counted.{Counted}
+use Rattle.refusals.specs.declared.Refusal.{Refusal}
+use Rattle.refusals.specs.declared.Refusal.TheVariants.{Cut, Trailing, Text}
+use Rattle.vtk_layout.specs.declared.Layout.{Layout}
 use Rattle.vtk_layout.specs.Texts.{feed, space, version_line, dataset_lines, float_line, cells_word, types_word, data_word, scalar_lines}
 use Rattle.vtk_layout.specs.Layout.{no_feed, is_title, written, title_at, block_at, line_at, section_at, counted_at, head_of, end_at, numbers_on, types_on, cells_on, points_on, located_of}
-use Rattle.vtk_layout.specs.declared.Located.{Located}
-use Rattle.vtk_layout.specs.declared.Located.TheVariants as located
 use Rattle.vtk_layout.proofs.Parts.{title_feed, title_next, no_feed_lem, block_there, line_in, head_small}
 use Rattle.vtk_layout.proofs.There.{Whole, standing_whole, stands}
 use Rattle.vtk_layout.proofs.Front.{stop_is, found_never, found_front}
@@ -62,7 +61,7 @@ any_told t bound Q h c = record {
   right = record { v = 0; few = h; more = c.rest; bytes = refl; right = c.right };
 }
 
-count_stop_is : {j k : ℕ} → ◌≡◌ {A = Counted} (counted.Stopped j) (counted.Stopped k) → j ≡ k
+count_stop_is : {j k : Refusal} → ◌≡◌ {A = Result Counted Refusal} (Err j) (Err k) → j ≡ k
 count_stop_is e = cc
 
 -- ---- a text and a block
@@ -84,7 +83,7 @@ module _ (t : List ℕ) (size : ℕ) (Q : List ℕ → Type 0) (b : List ℕ) (a
     };
   }
 
-  in_block : Can [] Q → (q : ℕ) → text_at t b at ≡ At q → length b < q + size → Can (drop at b) (Part t size Q)
+  in_block : Can [] Q → (q : ℕ) → text_at t b at ≡ Ok q → length b < q + size → Can (drop at b) (Part t size Q)
   unfolding joined
   in_block c q d l = record {
     rest = replicate (size - length (drop q b)) 0 ++ c.rest;
@@ -100,17 +99,17 @@ module _ (t : List ℕ) (size : ℕ) (Q : List ℕ → Type 0) (b : List ℕ) (a
     };
   }
 
-  line_cut : Can [] Q → line_at t size b at ≡ Stopped 11 → Can (drop at b) (Part t size Q)
+  line_cut : Can [] Q → line_at t size b at ≡ Err Cut → Can (drop at b) (Part t size Q)
   unfolding line_at
   line_cut c =
-      either_way (text_at t b at) Stopped (block_at size b) (λ r. r ≡ Stopped 11 → Can (drop at b) (Part t size Q)) (λ k d f. in_text c (text_cut t b at (d ∙ f)))
+      either_way (text_at t b at) Err (block_at size b) (λ r. r ≡ Err Cut → Can (drop at b) (Part t size Q)) (λ k d f. in_text c (text_cut t b at (d ∙ f)))
       (λ q d f. by_end q d f (lt_or (length b) (q + size)))
     where
-      by_end : (q : ℕ) → text_at t b at ≡ At q → block_at size b q ≡ Stopped 11 → (length b < q + size) ⊎ (q + size ≤ length b) → Can (drop at b) (Part t size Q)
+      by_end : (q : ℕ) → text_at t b at ≡ Ok q → block_at size b q ≡ Err Cut → (length b < q + size) ⊎ (q + size ≤ length b) → Can (drop at b) (Part t size Q)
       by_end q d f (inl l) = in_block c q d l
-      by_end q d f (inr l) = absurd (never_at 11 q (sym f ∙ block_there size b q l))
+      by_end q d f (inr l) = absurd (never_at Cut q (sym f ∙ block_there size b q l))
 
-  line_on : (block : ℕ) → line_at t size b at ≡ At block → Can (drop (block + size) b) Q → Can (drop at b) (Part t size Q)
+  line_on : (block : ℕ) → line_at t size b at ≡ Ok block → Can (drop (block + size) b) Q → Can (drop at b) (Part t size Q)
   unfolding joined
   line_on block e c = record {
     rest = c.rest;
@@ -126,21 +125,21 @@ module _ (t : List ℕ) (size : ℕ) (Q : List ℕ → Type 0) (b : List ℕ) (a
   }
 
   -- cut in the text or in the block, or behind them
-  part_can : (f : ℕ → Located) → Can [] Q → ((block : ℕ) → line_at t size b at ≡ At block → f block ≡ located.Stopped 11 → Can (drop (block + size) b) Q)
-      → on_place (line_at t size b at) located.Stopped f ≡ located.Stopped 11 → Can (drop at b) (Part t size Q)
+  part_can : (f : ℕ → Result Layout Refusal) → Can [] Q → ((block : ℕ) → line_at t size b at ≡ Ok block → f block ≡ Err Cut → Can (drop (block + size) b) Q)
+      → on_place (line_at t size b at) Err f ≡ Err Cut → Can (drop at b) (Part t size Q)
   part_can f c go =
-      either_way (line_at t size b at) located.Stopped f (λ r. r ≡ located.Stopped 11 → Can (drop at b) (Part t size Q))
-      (λ k d e. line_cut c (d ∙ ap Stopped (stop_is e))) (λ block d e. line_on block d (go block d e))
+      either_way (line_at t size b at) Err f (λ r. r ≡ Err Cut → Can (drop at b) (Part t size Q))
+      (λ k d e. line_cut c (d ∙ ap Err (stop_is e))) (λ block d e. line_on block d (go block d e))
 
 -- ---- header lines with a number are one text
 
-line_joined : (t u : List ℕ) (size : ℕ) (b : List ℕ) (at : ℕ) → line_at (t ++ u) size b at ≡ on_place (text_at t b at) Stopped (line_at u size b)
+line_joined : (t u : List ℕ) (size : ℕ) (b : List ℕ) (at : ℕ) → line_at (t ++ u) size b at ≡ on_place (text_at t b at) Err (line_at u size b)
 unfolding line_at text_at on_place
 line_joined [] u size b at = refl
 line_joined (x ∷ t) u size b at = by_tests (text_at (t ++ u) b (suc at)) (text_at t b (suc at)) (line_joined t u size b (suc at)) (ltb at (length b)) (eqb (get_or b at 0) x)
   where
-    by_tests : (p q : Place) → on_place p Stopped (block_at size b) ≡ on_place q Stopped (line_at u size b) → (c d : Bool)
-        → on_place (cond c (cond d p (Stopped 14)) (Stopped 11)) Stopped (block_at size b) ≡ on_place (cond c (cond d q (Stopped 14)) (Stopped 11)) Stopped (line_at u size b)
+    by_tests : (p q : Result ℕ Refusal) → on_place p Err (block_at size b) ≡ on_place q Err (line_at u size b) → (c d : Bool)
+        → on_place (cond c (cond d p (Err Text)) (Err Cut)) Err (block_at size b) ≡ on_place (cond c (cond d q (Err Text)) (Err Cut)) Err (line_at u size b)
     by_tests p q h true true = h
     by_tests p q h true false = refl
     by_tests p q h false d = refl
@@ -150,18 +149,18 @@ section_line : (before : List ℕ) (n : ℕ) (after : List ℕ) (size : ℕ) (b 
 unfolding section_at on_place
 section_line before n after size b at h = line_joined before (digits n ++ after) size b at ∙ by_text (text_at before b at)
   where
-    inner : (q : ℕ) → line_at (digits n ++ after) size b q ≡ on_place (number_at n b q) Stopped (line_at after size b)
-    inner q = line_joined (digits n) after size b q ∙ ap (λ (p : Place). on_place p Stopped (line_at after size b)) (sym (number_low n b q h))
+    inner : (q : ℕ) → line_at (digits n ++ after) size b q ≡ on_place (number_at n b q) Err (line_at after size b)
+    inner q = line_joined (digits n) after size b q ∙ ap (λ (p : Result ℕ Refusal). on_place p Err (line_at after size b)) (sym (number_low n b q h))
 
-    by_text : (p : Place) → on_place p Stopped (line_at (digits n ++ after) size b) ≡ on_place p Stopped (λ q. on_place (number_at n b q) Stopped (line_at after size b))
-    by_text (At q) = inner q
-    by_text (Stopped k) = refl
+    by_text : (p : Result ℕ Refusal) → on_place p Err (line_at (digits n ++ after) size b) ≡ on_place p Err (λ q. on_place (number_at n b q) Err (line_at after size b))
+    by_text (Ok q) = inner q
+    by_text (Err k) = refl
 
-section_can : (before : List ℕ) (n : ℕ) (after : List ℕ) (size : ℕ) (Q : List ℕ → Type 0) (b : List ℕ) (at : ℕ) (f : ℕ → Located) → n < 10000000000 → Can [] Q
-    → ((block : ℕ) → f block ≡ located.Stopped 11 → Can (drop (block + size) b) Q) → on_place (section_at before n after size b at) located.Stopped f ≡ located.Stopped 11
+section_can : (before : List ℕ) (n : ℕ) (after : List ℕ) (size : ℕ) (Q : List ℕ → Type 0) (b : List ℕ) (at : ℕ) (f : ℕ → Result Layout Refusal) → n < 10000000000 → Can [] Q
+    → ((block : ℕ) → f block ≡ Err Cut → Can (drop (block + size) b) Q) → on_place (section_at before n after size b at) Err f ≡ Err Cut
     → Can (drop at b) (Part (before ++ (digits n ++ after)) size Q)
 section_can before n after size Q b at f h c go e =
-    part_can (before ++ (digits n ++ after)) size Q b at f c (λ block d. go block) (ap (λ (p : Place). on_place p located.Stopped f) (section_line before n after size b at h) ∙ e)
+    part_can (before ++ (digits n ++ after)) size Q b at f c (λ block d. go block) (ap (λ (p : Result ℕ Refusal). on_place p Err f) (section_line before n after size b at h) ∙ e)
 
 -- ---- a text and a count
 
@@ -180,17 +179,17 @@ module _ (t : List ℕ) (bound : ℕ) (Q : ℕ → List ℕ → Type 0) (b : Lis
     };
   }
 
-  counted_cut : 0 < bound → Can [] (Q 0) → counted_at t b at ≡ counted.Stopped 11 → Can (drop at b) (Told t bound Q)
+  counted_cut : 0 < bound → Can [] (Q 0) → counted_at t b at ≡ Err Cut → Can (drop at b) (Told t bound Q)
   unfolding counted_at
   counted_cut h c =
-      either_way (text_at t b at) counted.Stopped (count_at b) (λ r. r ≡ counted.Stopped 11 → Can (drop at b) (Told t bound Q))
-      (λ k d f. counted_rest h c (text_cut t b at (d ∙ ap Stopped (count_stop_is f))))
+      either_way (text_at t b at) Err (count_at b) (λ r. r ≡ Err Cut → Can (drop at b) (Told t bound Q))
+      (λ k d f. counted_rest h c (text_cut t b at (d ∙ ap Err (count_stop_is f))))
       (λ q d f. counted_rest h c (record {
         rest = [];
         whole = sym (append-nil (drop at b) ∙ (text_found t b at q d).bytes ∙ ap (λ (s : List ℕ). t ++ s) (drop_of_length-le b (count_cut b q f)) ∙ append-nil t);
       }))
 
-  counted_on : (v z : ℕ) → counted_at t b at ≡ counted.Read v z → v < bound → Can (drop z b) (Q v) → Can (drop at b) (Told t bound Q)
+  counted_on : (v z : ℕ) → counted_at t b at ≡ Ok (read v z) → v < bound → Can (drop z b) (Q v) → Can (drop at b) (Told t bound Q)
   unfolding joined
   counted_on v z e h c = record {
     rest = c.rest;
@@ -213,13 +212,13 @@ no_title : (k : ℕ) (s : List ℕ) → s ≡ [] → TitleCut k s
 unfolding no_feed
 no_title k s e = record { short = omega (arith, ap length e); plain = ap no_feed e }
 
-title_cut : (k : ℕ) (b : List ℕ) (at : ℕ) → title_at k b at ≡ Stopped 11 → TitleCut k (drop at b)
+title_cut : (k : ℕ) (b : List ℕ) (at : ℕ) → title_at k b at ≡ Err Cut → TitleCut k (drop at b)
 unfolding title_at text_at feed text_of
 title_cut zero b at e = by_tests (lt_or at (length b)) (eq_or (get_or b at 0) 10)
   where
     by_tests : (at < length b) ⊎ (length b ≤ at) → (get_or b at 0 ≡ 10) ⊎ (get_or b at 0 ≢ 10) → TitleCut zero (drop at b)
-    by_tests (inl l) (inl y) = absurd (never_at 11 (suc at) (sym (rw (lt-ltb at (length b) l, eq-eqb _ _ y) at e)))
-    by_tests (inl l) (inr y) = absurd (other_stop (λ q. omega arith) (rw (lt-ltb at (length b) l, ne_eqb _ _ y) at e))
+    by_tests (inl l) (inl y) = absurd (never_at Cut (suc at) (sym (rw (lt-ltb at (length b) l, eq-eqb _ _ y) at e)))
+    by_tests (inl l) (inr y) = absurd (other_stop (λ q. cc) (rw (lt-ltb at (length b) l, ne_eqb _ _ y) at e))
     by_tests (inr l) y = no_title zero (drop at b) (drop_of_length-le b l)
 title_cut (suc k) b at e = by_tests (title_cut k b (suc at)) (lt_or at (length b)) (eq_or (get_or b at 0) 10)
   where
@@ -231,9 +230,9 @@ title_cut (suc k) b at e = by_tests (title_cut k b (suc at)) (lt_or at (length b
           plain = ap no_feed d ∙ no_feed_lem (get_or b at 0) (drop (suc at) b) y r.plain;
         }
 
-    by_tests : (title_at k b (suc at) ≡ Stopped 11 → TitleCut k (drop (suc at) b)) → (at < length b) ⊎ (length b ≤ at) → (get_or b at 0 ≡ 10) ⊎ (get_or b at 0 ≢ 10)
+    by_tests : (title_at k b (suc at) ≡ Err Cut → TitleCut k (drop (suc at) b)) → (at < length b) ⊎ (length b ≤ at) → (get_or b at 0 ≡ 10) ⊎ (get_or b at 0 ≢ 10)
         → TitleCut (suc k) (drop at b)
-    by_tests go (inl l) (inl y) = absurd (never_at 11 (at + 1) (sym e ∙ title_feed b at (suc k) (omega arith) l y))
+    by_tests go (inl l) (inl y) = absurd (never_at Cut (at + 1) (sym e ∙ title_feed b at (suc k) (omega arith) l y))
     by_tests go (inl l) (inr y) = goes l y (go (sym (title_next k b at l y) ∙ e))
     by_tests go (inr l) y = no_title (suc k) (drop at b) (drop_of_length-le b l)
 
@@ -306,65 +305,65 @@ right_whole s f =
     (stands f.title c.v d.v p.block e.block t.block u.block s f.plain c.few (omega (arith, d.few)) p.long e.long t.long u.long k)
 
 -- the number of cells as it is read
-unfoldable pub cell_count : List ℕ → Counted
+unfoldable pub cell_count : List ℕ → Result Counted Refusal
 cell_count b =
-    on_count (head_of b) counted.Stopped
-    (λ p q. on_place (line_at float_line (12 * p) b q) counted.Stopped (λ points. counted_at cells_word b (points + 12 * p)))
+    on_count (head_of b) Err
+    (λ p q. on_place (line_at float_line (12 * p) b q) Err (λ points. counted_at cells_word b (points + 12 * p)))
 
 module _ (b : List ℕ) where
-  end_can : (at : ℕ) → end_at b at ≡ Stopped 11 → Can (drop at b) Last
+  end_can : (at : ℕ) → end_at b at ≡ Err Cut → Can (drop at b) Last
   unfolding end_at Last
   end_can at =
-      either_way (text_at feed b at) Stopped _ (λ r. r ≡ Stopped 11 → Can (drop at b) Last) (λ k d f. goes_on (text_cut feed b at (d ∙ f)))
+      either_way (text_at feed b at) Err _ (λ r. r ≡ Err Cut → Can (drop at b) Last) (λ k d f. goes_on (text_cut feed b at (d ∙ f)))
       (λ z d f. absurd (no_cut z (ltb z (length b)) f))
     where
       goes_on : Missing feed (drop at b) → Can (drop at b) Last
       goes_on m = record { rest = m.rest; right = sym m.whole }
 
-      no_cut : (z : ℕ) (t : Bool) → cond t (Stopped 12) (At z) ≡ Stopped 11 → ⊥
-      no_cut z true f = other_stop (λ q. omega arith) f
-      no_cut z false f = never_at 11 z (sym f)
+      no_cut : (z : ℕ) (t : Bool) → cond t (Err Trailing) (Ok z) ≡ Err Cut → ⊥
+      no_cut z true f = other_stop (λ q. cc) f
+      no_cut z false f = never_at Cut z (sym f)
 
-  numbers_can : (p n points cells types : ℕ) → n < 2000000000 → numbers_on b p n points cells types ≡ located.Stopped 11 → Can (drop (types + 4 * n) b) (Numbers n)
+  numbers_can : (p n points cells types : ℕ) → n < 2000000000 → numbers_on b p n points cells types ≡ Err Cut → Can (drop (types + 4 * n) b) (Numbers n)
   unfolding numbers_on
   numbers_can p n points cells types h =
       section_can data_word n scalar_lines (4 * n) Last b (types + 4 * n)
-      (λ numbers. on_place (end_at b (numbers + 4 * n)) located.Stopped (λ q. located.Found (record { p = p; n = n; points = points; cells = cells; types = types; numbers = numbers })))
+      (λ numbers. on_place (end_at b (numbers + 4 * n)) Err (λ q. Ok (record { p = p; n = n; points = points; cells = cells; types = types; numbers = numbers })))
       (omega arith) any_last
-      (λ numbers. either_way (end_at b (numbers + 4 * n)) located.Stopped
-      (λ q. located.Found (record { p = p; n = n; points = points; cells = cells; types = types; numbers = numbers }))
-      (λ r. r ≡ located.Stopped 11 → Can (drop (numbers + 4 * n) b) Last) (λ k d e. end_can (numbers + 4 * n) (d ∙ ap Stopped (stop_is e))) (λ q d e. absurd (found_never e)))
+      (λ numbers. either_way (end_at b (numbers + 4 * n)) Err
+      (λ q. Ok (record { p = p; n = n; points = points; cells = cells; types = types; numbers = numbers }))
+      (λ r. r ≡ Err Cut → Can (drop (numbers + 4 * n) b) Last) (λ k d e. end_can (numbers + 4 * n) (d ∙ ap Err (stop_is e))) (λ q d e. absurd (found_never e)))
 
-  types_can : (p n points cells : ℕ) → n < 2000000000 → types_on b p n points cells ≡ located.Stopped 11 → Can (drop (cells + 20 * n) b) (Types n)
+  types_can : (p n points cells : ℕ) → n < 2000000000 → types_on b p n points cells ≡ Err Cut → Can (drop (cells + 20 * n) b) (Types n)
   unfolding types_on
   types_can p n points cells h =
       section_can types_word n feed (4 * n) (Numbers n) b (cells + 20 * n) (numbers_on b p n points cells) (omega arith) (any _ _ Last any_last)
       (λ types e. numbers_can p n points cells types h e)
 
-  cells_can : (p n points at : ℕ) → n < 2000000000 → cells_on b p n points at ≡ located.Stopped 11 → Can (drop at b) (Cells n)
+  cells_can : (p n points at : ℕ) → n < 2000000000 → cells_on b p n points at ≡ Err Cut → Can (drop at b) (Cells n)
   unfolding cells_on
   cells_can p n points at h =
       section_can space (5 * n) feed (20 * n) (Types n) b at (types_on b p n points) (omega arith) (any_types n) (λ cells e. types_can p n points cells h e)
 
-  module _ (few : (n next : ℕ) → cell_count b ≡ counted.Read n next → n < 2000000000) where
-    points_can : (p q : ℕ) → head_of b ≡ counted.Read p q → points_on b p q ≡ located.Stopped 11 → Can (drop q b) (Points p)
+  module _ (few : (n next : ℕ) → cell_count b ≡ Ok (read n next) → n < 2000000000) where
+    points_can : (p q : ℕ) → head_of b ≡ Ok (read p q) → points_on b p q ≡ Err Cut → Can (drop q b) (Points p)
     unfolding points_on cell_count
     points_can p q h =
         part_can float_line (12 * p) (Told cells_word 2000000000 Cells) b q
-        (λ points. on_count (counted_at cells_word b (points + 12 * p)) located.Stopped (λ n z. cells_on b p n points z)) any_told_cells
-        (λ points l. count_either_way (counted_at cells_word b (points + 12 * p)) located.Stopped (λ n z. cells_on b p n points z)
-        (λ r. r ≡ located.Stopped 11 → Can (drop (points + 12 * p) b) (Told cells_word 2000000000 Cells))
-        (λ k d e. counted_cut cells_word 2000000000 Cells b (points + 12 * p) (omega arith) (any_cells 0) (d ∙ ap counted.Stopped (stop_is e)))
+        (λ points. on_count (counted_at cells_word b (points + 12 * p)) Err (λ n z. cells_on b p n points z)) any_told_cells
+        (λ points l. count_either_way (counted_at cells_word b (points + 12 * p)) Err (λ n z. cells_on b p n points z)
+        (λ r. r ≡ Err Cut → Can (drop (points + 12 * p) b) (Told cells_word 2000000000 Cells))
+        (λ k d e. counted_cut cells_word 2000000000 Cells b (points + 12 * p) (omega arith) (any_cells 0) (d ∙ ap Err (stop_is e)))
         (λ n z d e. behind points l n z d e))
       where
-        behind : (points : ℕ) → line_at float_line (12 * p) b q ≡ At points → (n z : ℕ) → counted_at cells_word b (points + 12 * p) ≡ counted.Read n z
-            → cells_on b p n points z ≡ located.Stopped 11 → Can (drop (points + 12 * p) b) (Told cells_word 2000000000 Cells)
+        behind : (points : ℕ) → line_at float_line (12 * p) b q ≡ Ok points → (n z : ℕ) → counted_at cells_word b (points + 12 * p) ≡ Ok (read n z)
+            → cells_on b p n points z ≡ Err Cut → Can (drop (points + 12 * p) b) (Told cells_word 2000000000 Cells)
         behind points l n z d e =
             let s : n < 2000000000 =
-            few n z (count_went (head_of b) counted.Stopped _ p q h ∙ went (line_at float_line (12 * p) b q) counted.Stopped _ points l ∙ d) in
+            few n z (count_went (head_of b) Err _ p q h ∙ went (line_at float_line (12 * p) b q) Err _ points l ∙ d) in
             counted_on cells_word 2000000000 Cells b (points + 12 * p) n z d s (cells_can p n points z s e)
 
-    head_on : (p q : ℕ) → head_of b ≡ counted.Read p q → Can (drop q b) (Points p) → Can b Right
+    head_on : (p q : ℕ) → head_of b ≡ Ok (read p q) → Can (drop q b) (Points p) → Can b Right
     unfolding joined
     head_on p q h c =
         let f = head_found b p q h in
@@ -410,7 +409,7 @@ module _ (b : List ℕ) where
       };
     }
 
-    in_title : (q : ℕ) → text_at version_line b 0 ≡ At q → TitleCut 255 (drop q b) → Can b Right
+    in_title : (q : ℕ) → text_at version_line b 0 ≡ Ok q → TitleCut 255 (drop q b) → Can b Right
     unfolding joined
     in_title q d t = record {
       rest = feed ++ any_dataset.rest;
@@ -423,25 +422,25 @@ module _ (b : List ℕ) where
       };
     }
 
-    head_cut : head_of b ≡ counted.Stopped 11 → Can b Right
+    head_cut : head_of b ≡ Err Cut → Can b Right
     unfolding head_of
     head_cut =
-        either_way (text_at version_line b 0) counted.Stopped _ (λ r. r ≡ counted.Stopped 11 → Can b Right)
-        (λ k d f. in_version (text_cut version_line b 0 (d ∙ ap Stopped (count_stop_is f))))
-        (λ q d. either_way (title_at 255 b q) counted.Stopped (counted_at dataset_lines b) (λ r. r ≡ counted.Stopped 11 → Can b Right)
-        (λ k e f. in_title q d (title_cut 255 b q (e ∙ ap Stopped (count_stop_is f))))
+        either_way (text_at version_line b 0) Err _ (λ r. r ≡ Err Cut → Can b Right)
+        (λ k d f. in_version (text_cut version_line b 0 (d ∙ ap Err (count_stop_is f))))
+        (λ q d. either_way (title_at 255 b q) Err (counted_at dataset_lines b) (λ r. r ≡ Err Cut → Can b Right)
+        (λ k e f. in_title q d (title_cut 255 b q (e ∙ ap Err (count_stop_is f))))
         (λ z e f. behind q d z (title_found 255 b q z e) (counted_cut dataset_lines 10000000000 Points b z (omega arith) (any_points 0) f)))
       where
-        behind : (q : ℕ) → text_at version_line b 0 ≡ At q → (z : ℕ) → TitleHere 255 b q z → Can (drop z b) (Told dataset_lines 10000000000 Points) → Can b Right
+        behind : (q : ℕ) → text_at version_line b 0 ≡ Ok q → (z : ℕ) → TitleHere 255 b q z → Can (drop z b) (Told dataset_lines 10000000000 Points) → Can b Right
         behind q d z t c =
             title_on t.title (rw (le-leb (length t.title) 255 t.short) t.plain) z
             ((text_found version_line b 0 q d).bytes ∙ ap (λ (s : List ℕ). version_line ++ s) t.bytes) c
 
-    located_can : located_of b ≡ located.Stopped 11 → Can b Right
+    located_can : located_of b ≡ Err Cut → Can b Right
     unfolding located_of
     located_can =
-        count_either_way (head_of b) located.Stopped (points_on b) (λ r. r ≡ located.Stopped 11 → Can b Right)
-        (λ k d e. head_cut (d ∙ ap counted.Stopped (stop_is e))) (λ p q d e. head_on p q d (points_can p q d e))
+        count_either_way (head_of b) Err (points_on b) (λ r. r ≡ Err Cut → Can b Right)
+        (λ k d e. head_cut (d ∙ ap Err (stop_is e))) (λ p q d e. head_on p q d (points_can p q d e))
 
 -- ---- what it says
 
@@ -453,7 +452,7 @@ pub record Completed (b : List ℕ) : Type 0 where
 
 module _ (b : List ℕ) where
   -- a file that ends too soon, but for one that announces more cells than it can say the words of
-  pub cut_completed : ((n next : ℕ) → cell_count b ≡ counted.Read n next → n < 2000000000) → located_of b ≡ located.Stopped 11 → Completed b
+  pub cut_completed : ((n next : ℕ) → cell_count b ≡ Ok (read n next) → n < 2000000000) → located_of b ≡ Err Cut → Completed b
   cut_completed few e = by_can (located_can b few e)
     where
       by_rest : (r : List ℕ) → Whole (b ++ r) → Completed b
@@ -463,5 +462,5 @@ module _ (b : List ℕ) where
       by_can : Can b Right → Completed b
       by_can c = by_rest c.rest (right_whole (b ++ c.rest) c.right)
 
-  pub completed_cut : Completed b → located_of b ≡ located.Stopped 11
+  pub completed_cut : Completed b → located_of b ≡ Err Cut
   completed_cut c = found_front b c.byte c.rest c.whole.layout c.whole.found

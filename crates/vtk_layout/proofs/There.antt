@@ -12,23 +12,21 @@ use lib.ListN.{length, get_or, take, drop, length-append, length-drop}
 use lib.Seq.{take_at}
 use Rattle.lists.proofs.Bools.{and_left, and_right}
 use Rattle.decimal.specs.Text.{text_of, text_at}
-use Rattle.decimal.specs.Digits.{digits, is_digit}
-use Rattle.decimal.specs.declared.Place.{Place}
-use Rattle.decimal.specs.declared.Place.TheVariants.{At, Stopped}
-use Rattle.decimal.specs.declared.Counted.{Counted}
-use Rattle.decimal.specs.declared.Counted.TheVariants as counted
+use Rattle.decimal.specs.Digits.{digits, is_digit, read}
 use Rattle.decimal.proofs.Texts.{text_there, number_low, drop_on, in_file, went}
 use Rattle.decimal.proofs.Counts.{count_there, count_went}
+use Rattle.std.specs.Prelude.{Result, Ok, Err}
+use Rattle.decimal.specs.declared.Counted.{Counted}
+use Rattle.refusals.specs.declared.Refusal.{Refusal}
 use Rattle.vtk_layout.proofs.Parts.{title_feed, title_next, block_there}
 use Rattle.vtk_layout.specs.Texts.{feed, space, version_line, dataset_lines, float_line, cells_word, types_word, data_word, scalar_lines}
 use Rattle.vtk_layout.specs.Layout.{no_feed, is_title, written, title_at, line_at, section_at, counted_at, head_of, end_at, numbers_on, types_on, cells_on, points_on, located_of}
 use Rattle.vtk_layout.specs.declared.Layout.{Layout}
-use Rattle.vtk_layout.specs.declared.Located.TheVariants as located
 
 -- a part that is there, and what is left behind it
-record Passed (p : Place) (b rest : List ℕ) : Type 0 where
+record Passed (p : Result ℕ Refusal) (b rest : List ℕ) : Type 0 where
   place : ℕ
-  here : p ≡ At place
+  here : p ≡ Ok place
   left : drop place b ≡ rest
 
 text_passed : (t rest b : List ℕ) (at : ℕ) → drop at b ≡ t ++ rest → Passed (text_at t b at) b rest
@@ -56,7 +54,7 @@ unfolding line_at
 line_passed t x rest b size at l h e =
     let p = text_passed t (x ++ rest) b at e in
     let fits : p.place + size ≤ length b = omega (arith, simp (length-append, length-drop) at (ap length p.left)) in
-    record { place = p.place; here = went _ Stopped _ p.place p.here ∙ block_there size b p.place fits; left = p.left }
+    record { place = p.place; here = went _ Err _ p.place p.here ∙ block_there size b p.place fits; left = p.left }
 
 section_passed : (before : List ℕ) (n : ℕ) (after x rest b : List ℕ) (size at : ℕ) → n < 10000000000 → length x ≡ size → 0 < length rest
     → drop at b ≡ before ++ (digits n ++ (after ++ (x ++ rest))) → Passed (section_at before n after size b at) b (x ++ rest)
@@ -67,14 +65,14 @@ section_passed before n after x rest b size at s l h e =
     let r = line_passed after x rest b size q.place l h q.left in
     record {
       place = r.place;
-      here = went _ Stopped _ p.place p.here ∙ went _ Stopped _ q.place (number_low n b p.place s ∙ q.here) ∙ r.here;
+      here = went _ Err _ p.place p.here ∙ went _ Err _ q.place (number_low n b p.place s ∙ q.here) ∙ r.here;
       left = r.left;
     }
 
 -- a count that is there, and what is left behind it
-record Told (c : Counted) (v : ℕ) (b rest : List ℕ) : Type 0 where
+record Told (c : Result Counted Refusal) (v : ℕ) (b rest : List ℕ) : Type 0 where
   place : ℕ
-  here : c ≡ counted.Read v place
+  here : c ≡ Ok (read v place)
   left : drop place b ≡ rest
 
 counted_told : (t rest b : List ℕ) (v at : ℕ) → v < 10000000000 → is_digit (get_or rest 0 0) ≡ false → drop at b ≡ t ++ (digits v ++ rest) → Told (counted_at t b at) v b rest
@@ -83,7 +81,7 @@ counted_told t rest b v at s n e =
     let p = text_passed t (digits v ++ rest) b at e in
     record {
       place = p.place + length (digits v);
-      here = went _ counted.Stopped _ p.place p.here ∙ count_there v rest b p.place s p.left n;
+      here = went _ Err _ p.place p.here ∙ count_there v rest b p.place s p.left n;
       left = drop_on (digits v) rest b p.place p.left;
     }
 
@@ -93,7 +91,7 @@ pub record Standing (b : List ℕ) (p n : ℕ) (P C T N : List ℕ) : Type 0 whe
   pub cells : ℕ
   pub types : ℕ
   pub numbers : ℕ
-  pub found : located_of b ≡ located.Found (record { p = p; n = n; points = points; cells = cells; types = types; numbers = numbers })
+  pub found : located_of b ≡ Ok (record { p = p; n = n; points = points; cells = cells; types = types; numbers = numbers })
   pub points_are : take (12 * p) (drop points b) ≡ P
   pub cells_are : take (20 * n) (drop cells b) ≡ C
   pub types_are : take (4 * n) (drop types b) ≡ T
@@ -102,7 +100,7 @@ pub record Standing (b : List ℕ) (p n : ℕ) (P C T N : List ℕ) : Type 0 whe
 -- a whole file: its layout is found
 pub record Whole (b : List ℕ) : Type 0 where
   pub layout : Layout
-  pub found : located_of b ≡ located.Found layout
+  pub found : located_of b ≡ Ok layout
 
 pub standing_whole : (b : List ℕ) (p n : ℕ) (P C T N : List ℕ) → Standing b p n P C T N → Whole b
 standing_whole b p n P C T N s = record {
@@ -150,7 +148,7 @@ module _ (title : List ℕ) (p n : ℕ) (P C T N b : List ℕ) where
   end_here at e =
       let r = text_passed feed [] b at e in
       let h : length b ≤ r.place = omega (arith, simp length-drop at (ap length r.left)) in
-      record { place = r.place; here = went _ Stopped _ r.place r.here ∙ rw (le-ltb r.place (length b) h); left = r.left }
+      record { place = r.place; here = went _ Err _ r.place r.here ∙ rw (le-ltb r.place (length b) h); left = r.left }
 
   module _ (t : is_title title ≡ true) (sp : p < 10000000000) (sn : 5 * n < 10000000000) (lp : length P ≡ 12 * p) (lc : length C ≡ 20 * n) (lt : length T ≡ 4 * n) (ln : length N ≡ 4 * n) where
     module _ (h3 : Told (head_of b) p b (float_line ++ (P ++ second))) where
@@ -159,19 +157,19 @@ module _ (title : List ℕ) (p n : ℕ) (P C T N b : List ℕ) where
           module _ (h6 : Passed (section_at space (5 * n) feed (20 * n) b h5.place) b (C ++ third)) where
             module _ (h7 : Passed (section_at types_word n feed (4 * n) b (h6.place + 20 * n)) b (T ++ last)) where
               module _ (h8 : Passed (section_at data_word n scalar_lines (4 * n) b (h7.place + 4 * n)) b (N ++ feed)) where
-                found_8 : (y : ℕ) → end_at b (h8.place + 4 * n) ≡ At y → numbers_on b p n h4.place h6.place h7.place ≡ located.Found (record { p = p; n = n; points = h4.place; cells = h6.place; types = h7.place; numbers = h8.place })
+                found_8 : (y : ℕ) → end_at b (h8.place + 4 * n) ≡ Ok y → numbers_on b p n h4.place h6.place h7.place ≡ Ok (record { p = p; n = n; points = h4.place; cells = h6.place; types = h7.place; numbers = h8.place })
                 unfolding numbers_on
-                found_8 y e = went _ located.Stopped _ h8.place h8.here ∙ went _ located.Stopped _ y e
+                found_8 y e = went _ Err _ h8.place h8.here ∙ went _ Err _ y e
 
-                found_7 : (y : ℕ) → end_at b (h8.place + 4 * n) ≡ At y → cells_on b p n h4.place h5.place ≡ located.Found (record { p = p; n = n; points = h4.place; cells = h6.place; types = h7.place; numbers = h8.place })
+                found_7 : (y : ℕ) → end_at b (h8.place + 4 * n) ≡ Ok y → cells_on b p n h4.place h5.place ≡ Ok (record { p = p; n = n; points = h4.place; cells = h6.place; types = h7.place; numbers = h8.place })
                 unfolding cells_on types_on
-                found_7 y e = went _ located.Stopped _ h6.place h6.here ∙ went _ located.Stopped _ h7.place h7.here ∙ found_8 y e
+                found_7 y e = went _ Err _ h6.place h6.here ∙ went _ Err _ h7.place h7.here ∙ found_8 y e
 
-                found_all : (y : ℕ) → end_at b (h8.place + 4 * n) ≡ At y → located_of b ≡ located.Found (record { p = p; n = n; points = h4.place; cells = h6.place; types = h7.place; numbers = h8.place })
+                found_all : (y : ℕ) → end_at b (h8.place + 4 * n) ≡ Ok y → located_of b ≡ Ok (record { p = p; n = n; points = h4.place; cells = h6.place; types = h7.place; numbers = h8.place })
                 unfolding located_of points_on
                 found_all y e =
-                    count_went _ located.Stopped _ p h3.place h3.here ∙ went _ located.Stopped _ h4.place h4.here
-                    ∙ count_went _ located.Stopped _ n h5.place h5.here
+                    count_went _ Err _ p h3.place h3.here ∙ went _ Err _ h4.place h4.here
+                    ∙ count_went _ Err _ n h5.place h5.here
                     ∙ found_7 y e
 
                 from_8 : Standing b p n P C T N
@@ -227,7 +225,7 @@ module _ (title : List ℕ) (p n : ℕ) (P C T N b : List ℕ) where
             let h = counted_told dataset_lines (float_line ++ (P ++ second)) b p h2.place sp (no_digit (P ++ second)) h2.left in
             record {
               place = h.place;
-              here = went _ counted.Stopped _ h1.place h1.here ∙ went _ counted.Stopped _ h2.place h2.here ∙ h.here;
+              here = went _ Err _ h1.place h1.here ∙ went _ Err _ h2.place h2.here ∙ h.here;
               left = h.left;
             }
 

@@ -1,15 +1,12 @@
 use mathlib.Core.Path.{sym, ◌∙◌}
-use Rattle.std.proofs.lemmas.Result.{err_from_is_err_and}
-use Rattle.decimal.proofs.Texts.{number_low, number_stops, number_ends, number_over}
+use Rattle.decimal.proofs.Texts.{exits, number_low, number_stops, number_ends, number_over}
 use Rattle.decimal.proofs.number.Goals as goal
 
 pub returns-then-n-lt10000000000 : goal.returns-then-n-lt10000000000
 returns-then-n-lt10000000000 c = c.digits_of.ensures ∙ sym (number_low _ _ _ c.if-n-lt10000000000.true)
 
 pub returns-in_err-next : goal.returns-in_err-next
-returns-in_err-next c =
-    let p = err_from_is_err_and c.from_residual.result c.from_residual.ensures.1 in
-    rw (p.1, p.2) (number_stops _ _ _ c.if-n-lt10000000000.false _ c.in_err-next.ensures)
+returns-in_err-next c = exits c.from_residual.ensures.1 ∙ number_stops _ _ _ c.if-n-lt10000000000.false _ c.in_err-next.ensures
 
 pub returns-then-file-next : goal.returns-then-file-next
 returns-then-file-next c = number_ends _ _ _ c.if-n-lt10000000000.false _ c.in_ok-next.ensures c.if-file-next.true

@@ -1,15 +1,16 @@
-use Rattle.decimal.proofs.Texts.{onwards, halted}
+use mathlib.Core.Path.{◌∙◌}
+use Rattle.decimal.proofs.Texts.{exits, halted, onwards}
 use Rattle.vtk_layout.specs.Layout.{section_at}
 use Rattle.vtk_layout.proofs.section.Goals as goal
 
-pub returns-in-At-number : goal.returns-in-At-number
+pub returns-in_err-first : goal.returns-in_err-first
 unfolding section_at
-returns-in-At-number c = onwards _ _ _ _ _ c.text.ensures c.in-At.is (onwards _ _ _ _ _ c.number.ensures c.in-At-number.is c.line.ensures)
+returns-in_err-first c = exits c.from_residual.ensures.1 ∙ halted _ _ _ _ c.in_err-first.ensures
 
-pub returns-in-Stopped-number : goal.returns-in-Stopped-number
+pub returns-in_err-second : goal.returns-in_err-second
 unfolding section_at
-returns-in-Stopped-number c = onwards _ _ _ _ _ c.text.ensures c.in-At.is (halted _ _ _ _ _ c.number.ensures c.in-Stopped-number.is)
+returns-in_err-second c = onwards _ _ _ _ c.in_ok-first.ensures (exits c.from_residual-in_err-second.ensures.1 ∙ halted _ _ _ _ c.in_err-second.ensures)
 
-pub returns-in-Stopped : goal.returns-in-Stopped
+pub returns : goal.returns
 unfolding section_at
-returns-in-Stopped c = halted _ _ _ _ _ c.text.ensures c.in-Stopped.is
+returns c = onwards _ _ _ _ c.in_ok-first.ensures (onwards _ _ _ _ c.in_ok-second.ensures c.line.ensures)
