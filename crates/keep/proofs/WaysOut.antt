@@ -15,7 +15,7 @@ use Rattle.lists.proofs.Cases.{eq_or}
 use Rattle.lists.proofs.Lent.{as_lent, as_lent_below}
 use Rattle.refusals.specs.Rows.{first, proper, under}
 use Rattle.refusals.specs.Causes.{work_rows, each_rows, answer_rows}
-use Rattle.refusals.specs.Refusals.{as_number, as_refusal}
+use Rattle.refusals.specs.Refusals.{as_number, as_refusal, named}
 use Rattle.refusals.specs.declared.Refusal.{Refusal}
 use Rattle.refusals.specs.declared.Refusal.TheVariants.{NothingKept}
 use Rattle.refusals.proofs.Rows.{front_clear, rest_clear, unless_none, unless_some, first_under}
@@ -177,3 +177,7 @@ crust_low c p C X room = first_under 9 (crust_rows c p C X room) (omega arith) r
 pub cover_low : (c : Float) (p : ℕ) (C X Q : List ℕ) (room b : ℕ) → first (cover_rows c p C X Q room b) < 9
 unfolding cover_rows size_rows count_rows whole_rows work_rows each_rows answer_rows name_rows under
 cover_low c p C X Q room b = first_under 9 (cover_rows c p C X Q room b) (omega arith) refl
+
+pub cover_named : (c : Float) (p : ℕ) (C X Q : List ℕ) (room b : ℕ) → named (cover_rows c p C X Q room b) ≡ true
+unfolding named as_refusal cover_rows size_rows count_rows whole_rows work_rows each_rows answer_rows name_rows
+cover_named c p C X Q room b = refl

@@ -9,14 +9,14 @@ ghost use Rattle.marks.specs.Marks.{verdict_mark, mark_by};
 ghost use Rattle.marks.specs.Step.{MarksDone};
 ghost use Rattle.marks.specs.Parts.{MarkAsked, marks_by, StoreAsked, AllMarked, TellAsked, ToldAs};
 
+use refusals::CountError;
 use volume::Verdict;
 
-// The outcome: cells kept and cells dropped; refused, with its number; no room for so many cells.
-#[derive(Clone, Copy)]
-pub enum Told {
-    Done(u64, u64),
-    Refused(u32),
-    Short(u64),
+// How many cells are kept, and how many dropped.
+#[derive(Clone, Copy, Debug, PartialEq, Eq)]
+pub struct Told {
+    pub kept: u64,
+    pub dropped: u64,
 }
 
 // The mark of a cell with this verdict.
@@ -47,25 +47,20 @@ fn store_marks(points: &[u32], cells: &[u32], marks: &mut [u8], work: &[u32], n:
     requires { StoreAsked points.now cells.now marks.old work.now n }
     ensures { marks.new ≡ marks_by points.now cells.now work.now n least }
 {
-    let mut i: usize = 0;
-    while i < marks.len() {
-        let mark = mark_at(points, cells, work, n, i, least);
-        marks[i] = mark;
-        i += 1;
+    for (i, mark) in marks.iter_mut().enumerate() {
+        *mark = mark_at(points, cells, work, n, i, least);
     }
 }
 
-// How many marks are of this kind.
+// How many marks are of this kind. A plain loop, so that many are compared at once.
 pub fn count(marks: &[u8], kind: u8) -> usize
     ensures { result ≡ cnt kind marks.now }
 {
     let mut many: usize = 0;
-    let mut i: usize = 0;
-    while i < marks.len() {
-        if marks[i] == kind {
+    for mark in marks {
+        if *mark == kind {
             many += 1;
         }
-        i += 1;
     }
     many
 }
@@ -85,7 +80,10 @@ fn mark_cells(
     store_marks(points, cells, marks, work, n, least);
     let kept = count(marks, 1);
     let dropped = count(marks, 2);
-    Told::Done(kept as u64, dropped as u64)
+    Told {
+        kept: kept as u64,
+        dropped: dropped as u64,
+    }
 }
 
 // The marks where there is room for them, with a work table of one entry a point and a cell that holds anything and is left zero.
@@ -97,21 +95,21 @@ fn tell(
     probe: &[u8],
     marks: &mut [u8],
     work: &mut [u32],
-) -> Told
+) -> Result<Told, CountError>
     requires { TellAsked points.now cells.now probe.now work.old }
     ensures { ToldAs c points.now cells.now crossing.now probe.now marks.old result marks.new × (work.new ≡ replicate (length work.old) 0) }
 {
     let many = cells.len() / 4;
     if marks.len() < many {
-        lists::zero(work);
-        return Told::Short(many as u64);
+        work.fill(0);
+        return Err(CountError::Short(many as u64));
     }
     let n = points.len() / 3;
     keep::mark_inside(cells, crossing, probe, work, n);
     let least = volume::least_volume(c);
     let answer = mark_cells(points, cells, &mut marks[..many], work, n, least);
-    lists::zero(work);
-    answer
+    work.fill(0);
+    Ok(answer)
 }
 
 // What `keep_cover` makes of each cell. Refused with 1, 4, 5, 6 or 8: all tables are then as lent. With 9, which carries the cells, where
@@ -125,13 +123,10 @@ pub fn marks(
     probe: &[u8],
     marks: &mut [u8],
     work: &mut [u32],
-) -> Told
+) -> Result<Told, CountError>
     ensures { MarksDone c points.now cells.now crossing.now probe.now marks.old work.old result marks.new work.new }
 {
-    let number = keep::judge_cover(c, points.len(), cells, crossing, probe, work.len(), 1);
-    if number != 0 {
-        return Told::Refused(number);
-    }
+    keep::judge_cover(c, points.len(), cells, crossing, probe, work.len(), 1)?;
     let need = points.len() / 3 + cells.len() / 4;
     tell(c, points, cells, crossing, probe, marks, &mut work[..need])
 }

@@ -1,13 +1,17 @@
-use native.Mathlib.Omega.{arith}
 use Rattle.marks.proofs.Counting.{count_start, count_one, count_none, count_done}
 use Rattle.marks.proofs.count.Goals as goal
-use Rattle.marks.proofs.count.Goals.{else-marks-i, then-marks-i}
+use Rattle.marks.proofs.count.Goals.{else-mark-kind, then-mark-kind}
 
-pub loop-i-init : goal.loop-i-init
-loop-i-init c = (omega arith, count_start _ _)
+pub loop-mark-init : goal.loop-mark-init
+loop-mark-init c = count_start _ _
 
-pub loop-i-preserved : goal.loop-i-preserved
-loop-i-preserved c = (omega arith, elim c.if-marks-i.branch [ then-marks-i w ↦ rw w.many-is (count_one c.loop-i.invariant.1 (omega arith) w.if-marks-i.true) | else-marks-i w ↦ rw w.many-is (count_none c.loop-i.invariant.1 (omega arith) w.if-marks-i.false) ])
+pub loop-mark-preserved : goal.loop-mark-preserved
+loop-mark-preserved c =
+    let l = c.loop-mark in
+    elim c.if-mark-kind.branch [
+      | then-mark-kind w ↦ rw w.many-is (count_one l.invariant c.loop-mark-test.true w.if-mark-kind.true)
+      | else-mark-kind w ↦ rw w.many-is (count_none l.invariant c.loop-mark-test.true w.if-mark-kind.false)
+    ]
 
 pub returns : goal.returns
-returns c = count_done c.loop-i.invariant.1 c.loop-i-test.false
+returns c = count_done c.loop-mark.invariant c.loop-mark-test.false

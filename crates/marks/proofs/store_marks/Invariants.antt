@@ -1,5 +1,4 @@
-use Prim.Native.Nat.{◌-◌}
-use lib.ListN.{length, drop}
+use lib.ListN.{drop}
 use Rattle.lists.proofs.Listing.{Filling}
 use Rattle.volume.specs.Volume.{verdict_at}
 use Rattle.marked.specs.Parts.{marked_in}
@@ -8,6 +7,3 @@ use Rattle.marks.proofs.store_marks.Given as goal
 
 abbrev pub invariant-loop-i : goal.invariant-loop-i
 invariant-loop-i l = Filling (λ k. mark_by (marked_in (drop l.n l.work) k) (verdict_at l.points l.cells k l.least)) l.initial.marks l.marks l.i
-
-abbrev pub decreases-loop-i : goal.decreases-loop-i
-decreases-loop-i l = length l.initial.marks - l.i
