@@ -6,6 +6,7 @@ use native.Mathlib.Nat.{le_trans, le-max_left, mul-le-mul_left}
 use native.Mathlib.Omega.{arith}
 use borrow.Author.Tests.{leb-true}
 use lib.Dec.{leb, eqb, lit≤}
+use Rattle.std.specs.Prelude.{Some, None}
 use lib.Pow.{pow_mono}
 use lib.Ieee.{Float, neg}
 use lib.Ieee.Scale.{finite}
@@ -18,7 +19,7 @@ use Rattle.space.proofs.Space.{on_all}
 use Rattle.plan.specs.Step.{most_lattice, lattice_scale, octree_scale, scale_of, origin_of, extent_of, dim_of, far_of, fits_on, all_finite, stretch_of}
 use Rattle.plan.specs.Parts.{Small, Few}
 use Rattle.plan.specs.declared.Scale.{Scale}
-use Rattle.plan.specs.declared.Stretch.TheVariants.{Covers, TooLong}
+use Rattle.plan.specs.declared.Stretch.{Stretch}
 
 pub scale_small : (c : Float) (levels : ℕ) → levels ≤ most_levels → Small (scale_of c levels)
 unfolding scale_of
@@ -29,9 +30,9 @@ scale_small c levels h = go (eqb levels 0)
     go false = record { most_small = lit≤ tt; least_small = lit≤ tt; units_small = mul-le-mul_left 2 (pow_mono h) }
 
 -- an axis that is covered has a dimension in its bounds
-pub stretch_fits : (s : Scale) (c lo hi o : Float) (n : ℕ) → stretch_of s c lo hi ≡ Covers o n → (s.least ≤ n) × (n ≤ s.most)
+pub stretch_fits : (s : Scale) (c lo hi : Float) (k : Stretch) → stretch_of s c lo hi ≡ Some k → (s.least ≤ k.count) × (k.count ≤ s.most)
 unfolding stretch_of fits_on dim_of
-stretch_fits s c lo hi o n e = go (fits_on s c lo hi) refl e
+stretch_fits s c lo hi k e = go (fits_on s c lo hi) refl e
   where
     in_bound : fits_on s c lo hi ≡ true → dim_of s c lo hi ≤ s.most
     in_bound f =
@@ -39,9 +40,9 @@ stretch_fits s c lo hi o n e = go (fits_on s c lo hi) refl e
         (and_left (leb (dim_of s c lo hi) s.most) (finite (far_of s c lo hi))
         (and_right (all_finite (lo +f neg c) (hi +f c) (origin_of s c lo) (extent_of s c lo hi)) _ f))
 
-    go : (t : Bool) → fits_on s c lo hi ≡ t → cond t (Covers (origin_of s c lo) (dim_of s c lo hi)) TooLong ≡ Covers o n → (s.least ≤ n) × (n ≤ s.most)
+    go : (t : Bool) → fits_on s c lo hi ≡ t → cond t (Some (record { origin = origin_of s c lo; count = dim_of s c lo hi })) None ≡ Some k → (s.least ≤ k.count) × (k.count ≤ s.most)
     go true f g =
-        let same : dim_of s c lo hi ≡ n = cc in
+        let same : dim_of s c lo hi ≡ k.count = cc in
         subst (λ (k : ℕ). (s.least ≤ k) × (k ≤ s.most)) same (le-max_left s.least (ceil_to s.most (extent_of s c lo hi /f s.width)), in_bound f)
     go false f g =
         let no : ◌≡◌ {A = ℕ} 0 1 = cc in
@@ -50,5 +51,5 @@ stretch_fits s c lo hi o n e = go (fits_on s c lo hi) refl e
 pub few_three : {nx ny nz levels : ℕ} → nx ≤ most_lattice → ny ≤ most_lattice → nz ≤ most_lattice → levels ≤ most_levels → Few nx ny nz levels
 few_three {nx} {ny} {nz} x y z l = record { dims_few = on_all (λ a. pos nx ny nz a ≤ most_lattice) x y z; levels_few = l }
 
-pub covered : (s : Scale) (c lo hi o : Float) (n : ℕ) → Small s → stretch_of s c lo hi ≡ Covers o n → n ≤ most_lattice
-covered s c lo hi o n h e = le_trans (stretch_fits s c lo hi o n e).1 h.most_small
+pub covered : (s : Scale) (c lo hi : Float) (k : Stretch) → Small s → stretch_of s c lo hi ≡ Some k → k.count ≤ most_lattice
+covered s c lo hi k h e = le_trans (stretch_fits s c lo hi k e).1 h.most_small

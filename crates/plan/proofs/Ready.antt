@@ -5,17 +5,18 @@ use Prim.Native.Nat.{ℕ, ◌≤◌}
 use native.Mathlib.Omega.{arith}
 use borrow.Author.Tests.{leb-true, eqb-true}
 use lib.Dec.{leb, eqb}
+use Rattle.std.specs.Prelude.{Option, Some, None}
 use lib.Ieee.{Float}
 use lib.Ieee.Positive.{positive}
 use Rattle.space.specs.Space.{Axis, ax, ay, az}
 use Rattle.space.proofs.Space.{on_all}
 use Rattle.space.specs.Levels.{most_levels, most_roots, most_octants}
-use Rattle.plan.specs.Step.{most_lattice, lattice_scale, octree_scale, scale_of, stretch_at, straight_box, octants_fault, on_axis, counted, axes_of, plan_of, low, high}
+use Rattle.plan.specs.Step.{most_lattice, lattice_scale, octree_scale, scale_of, stretch_at, straight_box, on_axis, counted, axes_of, plan_of, low, high}
 use Rattle.plan.specs.Parts.{Planful}
 use Rattle.plan.specs.declared.Bounds.{Bounds}
 use Rattle.plan.specs.declared.Plan.{Plan}
 use Rattle.plan.specs.declared.Stretch.{Stretch}
-use Rattle.plan.specs.declared.Stretch.TheVariants.{Covers, TooLong}
+use Rattle.plan.specs.declared.Fault.TheVariants.{Octants}
 use Rattle.plan.specs.declared.Refusal.{Refusal}
 use Rattle.plan.specs.declared.Refusal.TheVariants.{Number, TooLarge}
 use Rattle.plan.specs.declared.Planned.{Planned}
@@ -41,19 +42,19 @@ on_axis_lem : (b : Bounds) (c : Float) (levels : ℕ) (a : Axis) (k : Float → 
     → (o : Float) × (n : ℕ) × (Along levels n) × (k o n ≡ Ready p)
 on_axis_lem b c levels a k p e = go (stretch_at (scale_of c levels) b c a) refl e
   where
-    go : (s : Stretch) → stretch_at (scale_of c levels) b c a ≡ s → on_axis a s k ≡ Ready p → (o : Float) × (n : ℕ) × (Along levels n) × (k o n ≡ Ready p)
-    go TooLong f g =
+    go : (s : Option Stretch) → stretch_at (scale_of c levels) b c a ≡ s → on_axis a s k ≡ Ready p → (o : Float) × (n : ℕ) × (Along levels n) × (k o n ≡ Ready p)
+    go None f g =
         let no : ◌≡◌ {A = ℕ} 0 1 = cc in
         absurd (omega arith)
-    go (Covers o n) f g =
-        let h = stretch_fits (scale_of c levels) c (low b a) (high b a) o n f in
-        (o, n, scale_fits c levels n h.0 h.1, g)
+    go (Some s) f g =
+        let h = stretch_fits (scale_of c levels) c (low b a) (high b a) s f in
+        (s.origin, s.count, scale_fits c levels s.count h.0 h.1, g)
 
 counted_ready : (q p : Plan) → counted q ≡ Ready p → (q ≡ p) × (q.octants ≤ most_octants)
 unfolding counted
 counted_ready q p e = go (leb q.octants most_octants) refl e
   where
-    go : (t : Bool) → leb q.octants most_octants ≡ t → cond t (Ready q) (Refused (TooLarge octants_fault)) ≡ Ready p → (q ≡ p) × (q.octants ≤ most_octants)
+    go : (t : Bool) → leb q.octants most_octants ≡ t → cond t (Ready q) (Refused (TooLarge Octants)) ≡ Ready p → (q ≡ p) × (q.octants ≤ most_octants)
     go true f g =
         let same : q ≡ p = cc in
         (same, leb-true q.octants most_octants f)

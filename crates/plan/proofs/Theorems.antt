@@ -8,6 +8,7 @@ use Prim.Native.Nat.{ℕ, zero, suc, ◌≤◌, ◌<◌}
 use native.Mathlib.Omega.{arith}
 use borrow.Author.Tests.{leb-true, leb-false, lt-leb, lt-ltb, le-ltb}
 use lib.Dec.{leb, ltb}
+use Rattle.std.specs.Prelude.{Option, Some, None}
 use lib.Ieee.{Float}
 use lib.ListN.{get_or}
 use lib.Ieee.Positive.{positive}
@@ -18,13 +19,13 @@ use Rattle.refusals.specs.Rows.{first, InTurn, caused, lower, rising}
 use Rattle.refusals.proofs.Rows.{in_turn, exactly}
 use Rattle.lists.specs.Tables.{Determined}
 use Rattle.lists.proofs.Lent.{determined}
-use Rattle.plan.specs.Step.{scale_of, stretch_at, fits_at, dims_at, fits_all, stretch_of, straight_box, fault_at, octants_fault, on_axis, counted, axes_of, plan_of, plan_rows}
+use Rattle.plan.specs.Step.{scale_of, stretch_at, fits_at, dims_at, fits_all, stretch_of, straight_box, fault_at, octants_fault, axis_fault, fault_number, on_axis, counted, axes_of, plan_of, plan_rows}
 use Rattle.plan.specs.Step.{refusal_number, refusal_values, refusal_of, number_of, fault_of, on_plan, FirstAtFault, OctantsAtFault}
 use Rattle.plan.specs.declared.Bounds.{Bounds}
 use Rattle.plan.specs.declared.Scale.{Scale}
 use Rattle.plan.specs.declared.Plan.{Plan}
 use Rattle.plan.specs.declared.Stretch.{Stretch}
-use Rattle.plan.specs.declared.Stretch.TheVariants.{Covers, TooLong}
+use Rattle.plan.specs.declared.Fault.TheVariants.{Octants}
 use Rattle.plan.specs.declared.Refusal.{Refusal}
 use Rattle.plan.specs.declared.Refusal.TheVariants.{Number, TooLarge}
 use Rattle.plan.specs.declared.Planned.{Planned}
@@ -34,7 +35,7 @@ use Rattle.plan.specs.declared.Planned.TheVariants.{Ready, Refused}
 
 abbrev in_order : (x y z n : Bool) → Refusal
 in_order x y z n =
-    cond x (cond y (cond z (cond n (Number 0) (TooLarge octants_fault)) (TooLarge (fault_at az))) (TooLarge (fault_at ay))) (TooLarge (fault_at ax))
+    cond x (cond y (cond z (cond n (Number 0) (TooLarge Octants)) (TooLarge (axis_fault az))) (TooLarge (axis_fault ay))) (TooLarge (axis_fault ax))
 
 abbrev refusal_by : (Axis → Bool) → Bool → Refusal
 refusal_by f n = in_order (f ax) (f ay) (f az) n
@@ -50,6 +51,10 @@ axis_at (suc (suc n)) = az
 
 below : (a : Axis) → fault_at a < octants_fault
 below = on_all (λ a. fault_at a < octants_fault) (omega arith) (omega arith) (omega arith)
+
+-- what a 4 says of an axis is what it says of its fault
+fault_same : (a : Axis) → fault_number (axis_fault a) ≡ fault_at a
+fault_same = on_all (λ a. fault_number (axis_fault a) ≡ fault_at a) refl refl refl
 
 axis_at_lem : (a : Axis) → axis_at (fault_at a) ≡ a
 unfolding axis_at
@@ -70,25 +75,25 @@ module _ (f : Axis → Bool) (n : ℕ) where
       go false y z t p q r s h = inl (ax, record { fault = p; before = on_all (λ e. fault_at e < fault_at ax → f e ≡ true) (λ l. absurd (omega arith)) (λ l. absurd (omega arith)) (λ l. absurd (omega arith)) })
 
   -- and names it
-  axis_named : (a : Axis) → FirstAtFault f a → refusal_by f (leb n most_octants) ≡ TooLarge (fault_at a)
+  axis_named : (a : Axis) → FirstAtFault f a → refusal_by f (leb n most_octants) ≡ TooLarge (axis_fault a)
   axis_named ax h = rw h.fault
   axis_named ay h = rw (h.before ax (omega arith), h.fault)
   axis_named az h = rw (h.before ax (omega arith), h.before ay (omega arith), h.fault)
 
-  octants_named : OctantsAtFault f n → refusal_by f (leb n most_octants) ≡ TooLarge octants_fault
+  octants_named : OctantsAtFault f n → refusal_by f (leb n most_octants) ≡ TooLarge Octants
   octants_named h = rw (h.fit ax, h.fit ay, h.fit az, lt-leb n most_octants h.above)
 
 -- an axis that fits or not, then what follows: refused with that axis where it does not fit, else as what follows
 on_axis_lem : (a : Axis) (f : Bool) (o : Float) (n : ℕ) (k : Float → ℕ → Planned) (why : Refusal) → refusal_of (k o n) ≡ why
-    → refusal_of (on_axis a (cond f (Covers o n) TooLong) k) ≡ cond f why (TooLarge (fault_at a))
+    → refusal_of (on_axis a (cond f (Some (record { origin = o; count = n })) None) k) ≡ cond f why (TooLarge (axis_fault a))
 on_axis_lem a true o n k why h = h
 on_axis_lem a false o n k why h = refl
 
-in_bound : (p : Plan) → refusal_of (counted p) ≡ cond (leb p.octants most_octants) (Number 0) (TooLarge octants_fault)
+in_bound : (p : Plan) → refusal_of (counted p) ≡ cond (leb p.octants most_octants) (Number 0) (TooLarge Octants)
 unfolding counted
 in_bound p = go (leb p.octants most_octants)
   where
-    go : (t : Bool) → refusal_of (cond t (Ready p) (Refused (TooLarge octants_fault))) ≡ cond t (Number 0) (TooLarge octants_fault)
+    go : (t : Bool) → refusal_of (cond t (Ready p) (Refused (TooLarge Octants))) ≡ cond t (Number 0) (TooLarge Octants)
     go true = refl
     go false = refl
 
@@ -123,9 +128,9 @@ Told (Ready p) = Unit
 Told (Refused (Number n)) = (1 ≤ n) × (n ≤ 3)
 Told (Refused (TooLarge fault)) = Unit
 
-told_axis : (a : Axis) (s : Stretch) (k : Float → ℕ → Planned) → ((o : Float) (n : ℕ) → Told (k o n)) → Told (on_axis a s k)
-told_axis a TooLong k h = tt
-told_axis a (Covers o n) k h = h o n
+told_axis : (a : Axis) (s : Option Stretch) (k : Float → ℕ → Planned) → ((o : Float) (n : ℕ) → Told (k o n)) → Told (on_axis a s k)
+told_axis a None k h = tt
+told_axis a (Some s) k h = h s.origin s.count
 
 told_cond : (t : Bool) (p q : Planned) → Told p → Told q → Told (cond t p q)
 told_cond true p q g h = g
@@ -133,7 +138,7 @@ told_cond false p q g h = h
 
 told_counted : (p : Plan) → Told (counted p)
 unfolding counted
-told_counted p = told_cond (leb p.octants most_octants) (Ready p) (Refused (TooLarge octants_fault)) tt tt
+told_counted p = told_cond (leb p.octants most_octants) (Ready p) (Refused (TooLarge Octants)) tt tt
 
 told_axes : (s : Scale) (b : Bounds) (c : Float) (levels : ℕ) → Told (axes_of s b c levels)
 unfolding axes_of
@@ -233,11 +238,11 @@ module _ (b : Bounds) (c : Float) (levels : ℕ) where
 
     -- the axis named is at fault, and none before it is; and the first axis at fault is named
     pub fault_axis : (a : Axis) → (fault_of r ≡ fault_at a) ↔ FirstAtFault fits a
-    fault_axis a = (λ v. go (fault_there fits octants (sym (ap refusal_number four_is) ∙ four)) v, λ h. ap fault_in (four_is ∙ axis_named fits octants a h))
+    fault_axis a = (λ v. go (fault_there fits octants (sym (ap refusal_number four_is) ∙ four)) v, λ h. ap fault_in (four_is ∙ axis_named fits octants a h) ∙ fault_same a)
       where
         go : ((d : Axis) × FirstAtFault fits d) ⊎ OctantsAtFault fits octants → fault_of r ≡ fault_at a → FirstAtFault fits a
         go (inl (d, h)) v =
-            let w : fault_at d ≡ fault_at a = sym (ap fault_in (four_is ∙ axis_named fits octants d h)) ∙ v in
+            let w : fault_at d ≡ fault_at a = sym (ap fault_in (four_is ∙ axis_named fits octants d h) ∙ fault_same d) ∙ v in
             subst (FirstAtFault fits) (sym (axis_at_lem d) ∙ ap axis_at w ∙ axis_at_lem a) h
         go (inr h) v = absurd (omega (arith, below a, sym (ap fault_in (four_is ∙ octants_named fits octants h)) ∙ v))
 
@@ -246,5 +251,5 @@ module _ (b : Bounds) (c : Float) (levels : ℕ) where
     fault_octants = (λ v. go (fault_there fits octants (sym (ap refusal_number four_is) ∙ four)) v, λ h. ap fault_in (four_is ∙ octants_named fits octants h))
       where
         go : ((d : Axis) × FirstAtFault fits d) ⊎ OctantsAtFault fits octants → fault_of r ≡ octants_fault → OctantsAtFault fits octants
-        go (inl (d, h)) v = absurd (omega (arith, below d, sym (ap fault_in (four_is ∙ axis_named fits octants d h)) ∙ v))
+        go (inl (d, h)) v = absurd (omega (arith, below d, sym (ap fault_in (four_is ∙ axis_named fits octants d h) ∙ fault_same d) ∙ v))
         go (inr h) v = h

@@ -1,6 +1,6 @@
 -- The plan: from a box, a cell size c and a number of levels to an origin, a unit and dimensions, or to a refusal. Every operation on
 -- floats is one of binary32, in the order written.
-use Rattle.std.specs.Prelude.{◌≡◌, ℕ, ◌*◌, ◌^◌, ◌<◌, max, Bool, true, false, not, ◌&&◌, cond, List, [], ◌∷◌, ◌++◌, leb, ltb, eqb, get_or, Float}
+use Rattle.std.specs.Prelude.{◌≡◌, ℕ, ◌*◌, ◌^◌, ◌<◌, max, Bool, true, false, not, ◌&&◌, cond, List, [], ◌∷◌, ◌++◌, leb, ltb, eqb, get_or, Float, Option, Some, None}
 use Rattle.std.specs.Float.Ieee.{neg, lt}
 use Rattle.std.specs.Float.Ieee.Scale.{finite}
 use Rattle.std.specs.Float.Ieee.Positive.{positive}
@@ -12,8 +12,9 @@ use Rattle.refusals.specs.Rows.{Row, ◌when◌}
 use Rattle.plan.specs.declared.Bounds.{Bounds}
 use Rattle.plan.specs.declared.Scale.{Scale}
 use Rattle.plan.specs.declared.Stretch.{Stretch}
-use Rattle.plan.specs.declared.Stretch.TheVariants.{Covers, TooLong}
 use Rattle.plan.specs.declared.Plan.{Plan}
+use Rattle.plan.specs.declared.Fault.{Fault}
+use Rattle.plan.specs.declared.Fault.TheVariants.{X, Y, Z, Octants}
 use Rattle.plan.specs.declared.Refusal.{Refusal}
 use Rattle.plan.specs.declared.Refusal.TheVariants.{Number, TooLarge}
 use Rattle.plan.specs.declared.Planned.{Planned}
@@ -86,8 +87,8 @@ fits_on s c lo hi =
     all_finite (lo +f neg c) (hi +f c) (origin_of s c lo) (extent_of s c lo hi)
     && (leb (dim_of s c lo hi) s.most && finite (far_of s c lo hi))
 
-unfoldable pub stretch_of : Scale → Float → Float → Float → Stretch
-stretch_of s c lo hi = cond (fits_on s c lo hi) (Covers (origin_of s c lo) (dim_of s c lo hi)) TooLong
+unfoldable pub stretch_of : Scale → Float → Float → Float → Option Stretch
+stretch_of s c lo hi = cond (fits_on s c lo hi) (Some (record { origin = origin_of s c lo; count = dim_of s c lo hi })) None
 
 -- ---- the three of them
 
@@ -95,7 +96,7 @@ stretch_of s c lo hi = cond (fits_on s c lo hi) (Covers (origin_of s c lo) (dim_
 abbrev pub fits_at : Scale → Bounds → Float → Axis → Bool
 fits_at s b c a = fits_on s c (low b a) (high b a)
 
-abbrev pub stretch_at : Scale → Bounds → Float → Axis → Stretch
+abbrev pub stretch_at : Scale → Bounds → Float → Axis → Option Stretch
 stretch_at s b c a = stretch_of s c (low b a) (high b a)
 
 -- what a 4 says of an axis, and of N: rule R2.1
@@ -107,13 +108,26 @@ fault_at az = 2
 abbrev pub octants_fault : ℕ
 octants_fault = 3
 
+-- an axis as what is at fault
+abbrev pub axis_fault : Axis → Fault
+axis_fault ax = X
+axis_fault ay = Y
+axis_fault az = Z
+
+-- and what a 4 says of it
+abbrev pub fault_number : Fault → ℕ
+fault_number X = fault_at ax
+fault_number Y = fault_at ay
+fault_number Z = fault_at az
+fault_number Octants = octants_fault
+
 -- refusal 4 of axis a where it does not fit, else what is made of its origin and dimension
-abbrev pub on_axis : Axis → Stretch → (Float → ℕ → Planned) → Planned
-on_axis a TooLong k = Refused (TooLarge (fault_at a))
-on_axis a (Covers o n) k = k o n
+abbrev pub on_axis : Axis → Option Stretch → (Float → ℕ → Planned) → Planned
+on_axis a None k = Refused (TooLarge (axis_fault a))
+on_axis a (Some s) k = k s.origin s.count
 
 unfoldable pub counted : Plan → Planned
-counted p = cond (leb p.octants most_octants) (Ready p) (Refused (TooLarge octants_fault))
+counted p = cond (leb p.octants most_octants) (Ready p) (Refused (TooLarge Octants))
 
 unfoldable pub axes_of : Scale → Bounds → Float → ℕ → Planned
 axes_of s b c levels =
@@ -146,7 +160,7 @@ refusal_number (TooLarge fault) = 4
 
 abbrev pub refusal_values : Refusal → List ℕ
 refusal_values (Number n) = []
-refusal_values (TooLarge fault) = fault ∷ []
+refusal_values (TooLarge fault) = fault_number fault ∷ []
 
 -- of each answer; the number 0 stands for none
 abbrev pub refusal_of : Planned → Refusal

@@ -1,11 +1,11 @@
 // The plan of a grid: from a box, a cell size and a number of levels to an origin, a unit and dimensions.
 #![tactic(auto)]
 
-ghost use Rattle.std.specs.Prelude.{◌≡◌, ◌≤◌, ◌^◌, max};
+ghost use Rattle.std.specs.Prelude.{◌≡◌, ◌≤◌, ◌^◌};
 ghost use Rattle.space.specs.Space.{pos};
 ghost use Rattle.space.specs.Levels.{most_levels, off};
 ghost use Rattle.plan.specs.Vertices.{place_of};
-ghost use Rattle.plan.specs.Step.{all_finite, scale_of, stretch_of, axes_of, straight, straight_box, plan_of, refusal_of};
+ghost use Rattle.plan.specs.Step.{all_finite, scale_of, stretch_of, axes_of, straight, straight_box, plan_of, fault_number, refusal_of};
 ghost use Rattle.plan.specs.Parts.{Small, Few};
 
 // A box: its lower and its upper bounds along x, y and z.
@@ -32,11 +32,11 @@ pub struct Scale {
     pub units: u32,
 }
 
-// One axis: its origin and its dimension, or none.
+// One axis: its origin and its dimension.
 #[derive(Clone, Copy)]
-pub enum Stretch {
-    Covers(f32, u32),
-    TooLong,
+pub struct Stretch {
+    pub origin: f32,
+    pub count: u32,
 }
 
 // The origin, the unit, how many roots (in a lattice, units) stand along each axis, the levels and the length of an octant table.
@@ -53,14 +53,33 @@ pub struct Plan {
     pub octants: u32,
 }
 
-// Why there is no plan, and why a step that makes one refuses: a number; 4, with the first axis at fault, or 3 where only the octants
-// are too many.
-#[derive(Clone, Copy)]
-pub enum Refusal {
-    Number(u32),
-    TooLarge(u32),
+// What is too large: the first axis at fault, or the octants alone.
+#[derive(Clone, Copy, Debug, PartialEq, Eq)]
+pub enum Fault {
+    X,
+    Y,
+    Z,
+    Octants,
 }
 
+impl Fault {
+    // Its number.
+    pub fn number(self) -> u32
+        ensures { result ≡ fault_number self }
+    {
+        self as u32
+    }
+}
+
+// Why there is no plan, and why a step that makes one refuses: a number; 4, with what is at fault.
+// A number, 0 for none, and not the causes by name: a rule of the project.
+#[derive(Clone, Copy, Debug, PartialEq, Eq)]
+pub enum Refusal {
+    Number(u32),
+    TooLarge(Fault),
+}
+
+// A plan or its refusal. An enum of its own and no `Result`: a rule of the project.
 #[derive(Clone, Copy)]
 pub enum Planned {
     Ready(Plan),
@@ -79,43 +98,25 @@ impl Planned {
     }
 }
 
+#[tactic(auto, unfolding(crate::specs::Step::all_finite))]
 fn are_finite(a: f32, b: f32, c: f32, d: f32) -> bool
     ensures { result ≡ all_finite a b c d }
 {
-    if !float32::is_finite(a) {
-        return false;
-    }
-    if !float32::is_finite(b) {
-        return false;
-    }
-    if !float32::is_finite(c) {
-        return false;
-    }
-    float32::is_finite(d)
+    float32::is_finite(a) && float32::is_finite(b) && float32::is_finite(c) && float32::is_finite(d)
 }
 
+#[tactic(auto, unfolding(crate::specs::Step::straight))]
 fn is_straight(lo: f32, hi: f32) -> bool
     ensures { result ≡ straight lo hi }
 {
-    if !float32::is_finite(lo) {
-        return false;
-    }
-    if !float32::is_finite(hi) {
-        return false;
-    }
-    !(hi < lo)
+    float32::is_finite(lo) && float32::is_finite(hi) && !(hi < lo)
 }
 
+#[tactic(auto, unfolding(crate::specs::Step::straight_box))]
 fn is_box(b: Bounds) -> bool
     ensures { result ≡ straight_box b }
 {
-    if !is_straight(b.x0, b.x1) {
-        return false;
-    }
-    if !is_straight(b.y0, b.y1) {
-        return false;
-    }
-    is_straight(b.z0, b.z1)
+    is_straight(b.x0, b.x1) && is_straight(b.y0, b.y1) && is_straight(b.z0, b.z1)
 }
 
 // 2 ^ levels
@@ -152,14 +153,8 @@ fn scaled(c: f32, levels: u32) -> Scale
     }
 }
 
-fn larger(a: u32, b: u32) -> u32
-    ensures { result ≡ max a b }
-{
-    if a < b { b } else { a }
-}
-
-// One axis of the box, from lo to hi.
-fn along(s: Scale, c: f32, lo: f32, hi: f32) -> Stretch
+// One axis of the box, from lo to hi; none where it is too long.
+fn along(s: Scale, c: f32, lo: f32, hi: f32) -> Option<Stretch>
     requires { Small s }
     ensures { result ≡ stretch_of s c lo hi }
 {
@@ -168,18 +163,18 @@ fn along(s: Scale, c: f32, lo: f32, hi: f32) -> Stretch
     let origin = min - s.margin;
     let extent = (max - min) + s.margin * 2.0;
     if !are_finite(min, max, origin, extent) {
-        return Stretch::TooLong;
+        return None;
     }
     let most = s.most;
-    let n = larger(s.least, float32::ceiling(extent / s.width, most));
+    let n = s.least.max(float32::ceiling(extent / s.width, most));
     if n > most {
-        return Stretch::TooLong;
+        return None;
     }
     let v = n * s.units;
     if !float32::is_finite(origin + (v as f32) * s.half) {
-        return Stretch::TooLong;
+        return None;
     }
-    Stretch::Covers(origin, n)
+    Some(Stretch { origin, count: n })
 }
 
 // The octants of the levels from the roots' down to level 1: 1 + 8 + 64 + … to a root.
@@ -197,27 +192,27 @@ fn over(s: Scale, b: Bounds, c: f32, levels: u32) -> Planned
     requires levels_le_most_levels { levels ≤ most_levels }
     ensures { result ≡ axes_of s b c levels }
 {
-    let Stretch::Covers(ox, nx) = along(s, c, b.x0, b.x1) else {
-        return Planned::Refused(Refusal::TooLarge(0));
+    let Some(x) = along(s, c, b.x0, b.x1) else {
+        return Planned::Refused(Refusal::TooLarge(Fault::X));
     };
-    let Stretch::Covers(oy, ny) = along(s, c, b.y0, b.y1) else {
-        return Planned::Refused(Refusal::TooLarge(1));
+    let Some(y) = along(s, c, b.y0, b.y1) else {
+        return Planned::Refused(Refusal::TooLarge(Fault::Y));
     };
-    let Stretch::Covers(oz, nz) = along(s, c, b.z0, b.z1) else {
-        return Planned::Refused(Refusal::TooLarge(2));
+    let Some(z) = along(s, c, b.z0, b.z1) else {
+        return Planned::Refused(Refusal::TooLarge(Fault::Z));
     };
-    let n = count(nx, ny, nz, levels);
+    let n = count(x.count, y.count, z.count, levels);
     if n > Plan::OCTANTS as u64 {
-        return Planned::Refused(Refusal::TooLarge(3));
+        return Planned::Refused(Refusal::TooLarge(Fault::Octants));
     }
     Planned::Ready(Plan {
-        ox,
-        oy,
-        oz,
+        ox: x.origin,
+        oy: y.origin,
+        oz: z.origin,
         half: s.half,
-        nx,
-        ny,
-        nz,
+        nx: x.count,
+        ny: y.count,
+        nz: z.count,
         levels,
         octants: n as u32,
     })
@@ -241,7 +236,7 @@ impl Plan {
 
     pub const OCTANTS: u32 = 1_048_576;
 
-    // The plan of a box, or why there is none.
+    // The plan of a box, or why there is none. Named `new`, the bounds constants of the type: a rule of the project.
     pub fn new(b: Bounds, c: f32, levels: u32) -> Planned
         ensures { result ≡ plan_of b c levels }
     {

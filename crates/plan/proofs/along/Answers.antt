@@ -34,7 +34,7 @@ pub returns-then-n-most : goal.returns-then-n-most
 unfolding stretch_of fits_on
 returns-then-n-most c =
     let a = c.args in
-    let d = dims_is a.s a.c a.lo a.hi _ _ c.ceiling.ensures c.larger-n.ensures in
+    let d = dims_is a.s a.c a.lo a.hi _ _ c.ceiling.ensures c.max-n.ensures in
     simp (passed c.are_finite.ensures c.if-not-are_finite.false, above d c.if-n-most.true)
 
 pub overflow_mul-v : goal.overflow_mul-v
@@ -42,13 +42,13 @@ overflow_mul-v c = Fits-le (units_few c.args.s _ c.requires c.if-n-most.false) (
 
 pub int_to_float-v : goal.int_to_float-v
 unfolding in_float
-int_to_float-v c = le→leb (c.larger-n.result * c.args.s.units) (2 ^ 24) (le_trans (units_few c.args.s _ c.requires c.if-n-most.false) (lit≤ tt))
+int_to_float-v c = le→leb (c.max-n.result * c.args.s.units) (2 ^ 24) (le_trans (units_few c.args.s _ c.requires c.if-n-most.false) (lit≤ tt))
 
 pub returns-then-not-is_finite : goal.returns-then-not-is_finite
 unfolding stretch_of fits_on
 returns-then-not-is_finite c =
     let a = c.args in
-    let d = dims_is a.s a.c a.lo a.hi _ _ c.ceiling.ensures c.larger-n.ensures in
+    let d = dims_is a.s a.c a.lo a.hi _ _ c.ceiling.ensures c.max-n.ensures in
     simp (
       passed c.are_finite.ensures c.if-not-are_finite.false,
       within d c.if-n-most.false,
@@ -59,7 +59,7 @@ pub returns : goal.returns
 unfolding stretch_of fits_on
 returns c =
     let a = c.args in
-    let d = dims_is a.s a.c a.lo a.hi _ _ c.ceiling.ensures c.larger-n.ensures in
+    let d = dims_is a.s a.c a.lo a.hi _ _ c.ceiling.ensures c.max-n.ensures in
     simp (
       passed c.are_finite.ensures c.if-not-are_finite.false,
       within d c.if-n-most.false,

@@ -11,20 +11,8 @@ use Rattle.plan.proofs.count.Goals as goal
 narrow : (nx ny nz levels w : ℕ) → Few nx ny nz levels → w ≡ 2 ^ levels → Small most_lattice (pos nx ny nz) w
 narrow nx ny nz levels w few e = small (pos nx ny nz) few.dims_few e few.levels_few
 
-pub overflow_mul-result : goal.overflow_mul-result
-overflow_mul-result c = omega (arith, narrow _ _ _ _ _ c.requires c.width_of-w.ensures.value)
-
 pub overflow_mul-result-2 : goal.overflow_mul-result-2
 overflow_mul-result-2 c = omega (arith, narrow _ _ _ _ _ c.requires c.width_of-w.ensures.value)
-
-pub overflow_mul-result-3 : goal.overflow_mul-result-3
-overflow_mul-result-3 c = omega (arith, narrow _ _ _ _ _ c.requires c.width_of-w.ensures.value)
-
-pub overflow_mul-result-4 : goal.overflow_mul-result-4
-overflow_mul-result-4 c = omega (arith, narrow _ _ _ _ _ c.requires c.width_of-w.ensures.value)
-
-pub overflow_sub-result : goal.overflow_sub-result
-overflow_sub-result c = omega (arith, narrow _ _ _ _ _ c.requires c.width_of-w.ensures.value)
 
 pub overflow_mul-result-5 : goal.overflow_mul-result-5
 overflow_mul-result-5 c = omega (arith, narrow _ _ _ _ _ c.requires c.width_of-w.ensures.value)
