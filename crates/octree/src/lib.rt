@@ -5,8 +5,7 @@ ghost use Rattle.std.specs.Prelude.{◌≡◌, ◌+◌, ◌*◌, ◌^◌, ◌≤
 ghost use Rattle.space.specs.Space.{pos};
 ghost use Rattle.octants.specs.Oct.{counts, within, hit};
 ghost use Rattle.space.specs.Levels.{most_levels, most_roots, most_along, Counts, size};
-ghost use Rattle.octants.specs.Table.{at};
-ghost use Rattle.octree.specs.Parts.{roots_of, place_of, counts_of, tree_of, Covers, level_at, below_of};
+ghost use Rattle.octree.specs.Parts.{roots_of, place_of, counts_of, tree_of, Covers, level_at, below_of, Held, in_level};
 
 // The roots along the axes, and how many levels stand below them.
 #[derive(Clone, Copy)]
@@ -35,45 +34,30 @@ pub struct Level {
     pub nz: usize,
 }
 
-// The place of octant (x, y, z) in a level with nx by ny octants to a layer.
-pub fn slot_of(nx: usize, ny: usize, x: usize, y: usize, z: usize) -> usize
-    requires { (nx * ny < 2 ^ 63) × (x + y * nx + z * (nx * ny) < 2 ^ 63) }
-    ensures { result ≡ x + y * nx + z * (nx * ny) }
+// The place of octant (x, y, z) in a level.
+pub fn slot_of(v: Level, x: usize, y: usize, z: usize) -> usize
+    requires { (v.nx * v.ny < 2 ^ 63) × (x + y * v.nx + z * (v.nx * v.ny) < 2 ^ 63) }
+    ensures { result ≡ x + y * v.nx + z * (v.nx * v.ny) }
 {
-    x + y * nx + z * (nx * ny)
+    x + y * v.nx + z * (v.nx * v.ny)
 }
 
-// Whether octant (x, y, z) is there, in a level with nx, ny and nz octants along the axes.
-pub fn is_inside(nx: usize, ny: usize, nz: usize, x: usize, y: usize, z: usize) -> bool
-    ensures { result ≡ within (pos nx ny nz) (pos x y z) }
+// Whether octant (x, y, z) is there.
+pub fn is_inside(v: Level, x: usize, y: usize, z: usize) -> bool
+    ensures { result ≡ within (counts_of v) (pos x y z) }
 {
-    if nx <= x {
-        return false;
-    }
-    if ny <= y {
-        return false;
-    }
-    z < nz
+    x < v.nx && y < v.ny && z < v.nz
 }
 
-// Whether octant (x, y, z) is there and split in the level that begins at o.
-pub fn hits(
-    s: &[u8],
-    o: usize,
-    nx: usize,
-    ny: usize,
-    nz: usize,
-    x: usize,
-    y: usize,
-    z: usize,
-) -> bool
-    requires { o + size (pos nx ny nz) ≤ length s.now }
-    ensures { result ≡ hit (pos nx ny nz) (at s.now o (pos nx ny nz)) (pos x y z) }
+// Whether octant (x, y, z) of a level is there and split.
+pub fn hits(s: &[u8], v: Level, x: usize, y: usize, z: usize) -> bool
+    requires { Held s.now v }
+    ensures { result ≡ hit (counts_of v) (in_level s.now v) (pos x y z) }
 {
-    if !is_inside(nx, ny, nz, x, y, z) {
+    if !is_inside(v, x, y, z) {
         return false;
     }
-    let i = o + slot_of(nx, ny, x, y, z);
+    let i = v.start + slot_of(v, x, y, z);
     s[i] == 1
 }
 
@@ -120,6 +104,5 @@ pub fn is_split(s: &[u8], d: Roots, o: Octant) -> bool
     if o.level == 0 {
         return false;
     }
-    let v = level_at(d, d.levels - o.level);
-    hits(s, v.start, v.nx, v.ny, v.nz, o.x, o.y, o.z)
+    hits(s, level_at(d, d.levels - o.level), o.x, o.y, o.z)
 }

@@ -18,10 +18,10 @@ pub hits-requires : goal.hits-requires
 hits-requires c =
     let d = c.args.d in
     let k = d.levels - c.args.o.level in
-    omega (arith, level_end (roots_of d) k c.level_at-v.ensures, c.requires.0.octants, off_le (roots_of d) (suc k) d.levels (omega arith))
+    omega (arith, level_end (roots_of d) k c.level_at.ensures, c.requires.0.octants, off_le (roots_of d) (suc k) d.levels (omega arith))
 
 pub returns : goal.returns
 returns c =
     let a = c.args in
     c.hits.ensures
-    ∙ split_is (roots_of a.d) a.d.levels a.o.level a.s.now (place_of a.o) c.level_at-v.ensures (omega (arith, c.if-o-eq0.false)) c.requires.1
+    ∙ split_is (roots_of a.d) a.d.levels a.o.level a.s.now (place_of a.o) c.level_at.ensures (omega (arith, c.if-o-eq0.false)) c.requires.1

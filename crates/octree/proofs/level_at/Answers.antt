@@ -17,15 +17,6 @@ overflow_mul-result c = omega (arith, few _ _ _ c.requires.0 c.along-w.ensures c
 pub overflow_mul-result-2 : goal.overflow_mul-result-2
 overflow_mul-result-2 c = omega (arith, few _ _ _ c.requires.0 c.along-w.ensures c.requires.1)
 
-pub overflow_mul-result-3 : goal.overflow_mul-result-3
-overflow_mul-result-3 c = omega (arith, few _ _ _ c.requires.0 c.along-w.ensures c.requires.1)
-
-pub overflow_mul-result-4 : goal.overflow_mul-result-4
-overflow_mul-result-4 c = omega (arith, few _ _ _ c.requires.0 c.along-w.ensures c.requires.1)
-
-pub overflow_sub-result : goal.overflow_sub-result
-overflow_sub-result c = omega (arith, few _ _ _ c.requires.0 c.along-w.ensures c.requires.1)
-
 pub overflow_mul-result-5 : goal.overflow_mul-result-5
 overflow_mul-result-5 c = omega (arith, few _ _ _ c.requires.0 c.along-w.ensures c.requires.1)
 
