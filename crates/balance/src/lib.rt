@@ -25,12 +25,10 @@ fn merge_row(seen: &mut [u8], s: &[u8], o: usize, w: usize)
     requires { (w + 2 ≤ length seen.old) × (o + w ≤ length s.now) }
     ensures { Merged seen.old seen.new w (λ x. one s.now (o + x)) }
 {
-    let mut x = 0;
-    while x < w {
+    for x in 0..w {
         let j = x + 1;
         let i = o + x;
         seen[j] = mark(seen[j], s[i]);
-        x += 1;
     }
 }
 
@@ -39,10 +37,8 @@ fn merge_rows(seen: &mut [u8], s: &[u8], o: usize, w: usize, y0: usize, y1: usiz
     requires { (w + 2 ≤ length seen.old) × (y0 ≤ y1) × (o + y1 * w ≤ length s.now) }
     ensures { Merged seen.old seen.new w (in_rows s.now o w y0 y1) }
 {
-    let mut y = y0;
-    while y < y1 {
+    for y in y0..y1 {
         merge_row(seen, s, o + y * w, w);
-        y += 1;
     }
 }
 
@@ -54,10 +50,8 @@ fn merge_layers(seen: &mut [u8], s: &[u8], v: Level, y0: usize, y1: usize, z0: u
     let o = v.start;
     let w = v.nx;
     let h = v.ny;
-    let mut z = z0;
-    while z < z1 {
+    for z in z0..z1 {
         merge_rows(seen, s, o + z * (w * h), w, y0, y1);
-        z += 1;
     }
 }
 
@@ -116,10 +110,7 @@ fn touched(seen: &[u8], x: usize) -> bool
 fn split_byte(b: u8, t: bool) -> u8
     ensures { result ≡ bit (eqb b 1 || t) }
 {
-    if b == 1 {
-        return 1;
-    }
-    if t { 1 } else { 0 }
+    u8::from(b == 1 || t)
 }
 
 // Splits the touched octants of the row of n octants that begins at i.
@@ -127,12 +118,9 @@ fn split_row(s: &mut [u8], i: usize, n: usize, seen: &[u8])
     requires { (i + n ≤ length s.old) × (2 * n + 2 ≤ length seen.now) }
     ensures { Swept s.old s.new i n (λ x. bit (one s.old (i + x) || touched_of seen.now x)) }
 {
-    let mut x = 0;
-    while x < n {
+    for x in 0..n {
         let j = i + x;
-        let v = split_byte(s[j], touched(seen, x));
-        s[j] = v;
-        x += 1;
+        s[j] = split_byte(s[j], touched(seen, x));
     }
 }
 
@@ -151,11 +139,8 @@ fn balance_level(s: &mut [u8], v: Level)
     requires { LevelAsked s.old v }
     ensures { Swept s.old s.new v.start (size (counts_of v)) (balanced_byte s.old v) }
 {
-    let rows = v.ny * v.nz;
-    let mut q = 0;
-    while q < rows {
+    for q in 0..v.ny * v.nz {
         balance_row(s, v, q);
-        q += 1;
     }
 }
 
@@ -164,9 +149,7 @@ pub fn balance(s: &mut [u8], d: Roots)
     requires { Covers d (length s.old) × (1 ≤ d.levels) × (all_at_most 1 s.old ≡ true) }
     ensures { s.new ≡ balance_of (roots_of d) d.levels s.old }
 {
-    let mut j = d.levels - 1;
-    while 0 < j {
-        j -= 1;
+    for j in (0..d.levels - 1).rev() {
         balance_level(s, level_at(d, j));
     }
 }
@@ -175,10 +158,7 @@ pub fn balance(s: &mut [u8], d: Roots)
 fn is_unsteady(b: u8, t: bool) -> bool
     ensures { result ≡ (not (eqb b 1) && t) }
 {
-    if b == 1 {
-        return false;
-    }
-    t
+    b != 1 && t
 }
 
 // Whether the row of n octants that begins at i has one that is touched and not split.
@@ -186,13 +166,11 @@ fn row_gives(s: &[u8], i: usize, n: usize, seen: &[u8]) -> bool
     requires { (i + n ≤ length s.now) × (2 * n + 2 ≤ length seen.now) }
     ensures { result ≡ any n (λ x. not (one s.now (i + x)) && touched_of seen.now x) }
 {
-    let mut x = 0;
-    while x < n {
+    for x in 0..n {
         let j = i + x;
         if is_unsteady(s[j], touched(seen, x)) {
             return true;
         }
-        x += 1;
     }
     false
 }
@@ -212,13 +190,10 @@ fn level_unsteady(s: &[u8], v: Level) -> bool
     requires { LevelAsked s.now v }
     ensures { result ≡ any (size (counts_of v)) (gives s.now v) }
 {
-    let rows = v.ny * v.nz;
-    let mut q = 0;
-    while q < rows {
+    for q in 0..v.ny * v.nz {
         if row_unsteady(s, v, q) {
             return true;
         }
-        q += 1;
     }
     false
 }
@@ -228,13 +203,10 @@ pub fn is_graded(s: &[u8], d: Roots) -> bool
     requires { Covers d (length s.now) × (1 ≤ d.levels) }
     ensures { result ≡ is_graded (roots_of d) d.levels s.now }
 {
-    let top = d.levels - 1;
-    let mut j = 0;
-    while j < top {
+    for j in 0..d.levels - 1 {
         if level_unsteady(s, level_at(d, j)) {
             return false;
         }
-        j += 1;
     }
     true
 }

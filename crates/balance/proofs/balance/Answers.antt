@@ -5,14 +5,8 @@ use Rattle.octree.specs.Parts.{roots_of}
 use Rattle.balance.proofs.Levelling.{level_asked, balance_start, balance_turn, balance_end}
 use Rattle.balance.proofs.balance.Goals as goal
 
-pub overflow_sub-j : goal.overflow_sub-j
-overflow_sub-j c = c.requires.1
-
 pub loop-j-init : goal.loop-j-init
 loop-j-init c = let p = c.requires in balance_start _ _ _ _ (omega (arith, p.1)) p.0.octants p.2
-
-pub overflow_sub-j-in-loop-j : goal.overflow_sub-j-in-loop-j
-overflow_sub-j-in-loop-j c = omega (arith, c.loop-j-test.true)
 
 pub level_at-requires : goal.level_at-requires
 level_at-requires c = let p = c.requires.0 in (p.roots, omega (arith, p.levels, c.loop-j.invariant.few))
@@ -24,9 +18,6 @@ balance_level-requires c =
     let l = c.loop-j in
     level_asked d (l.j - 1) c.level_at.ensures p.roots (omega (arith, p.levels, l.invariant.few))
     (omega (arith, p.octants, l.invariant.long, off_le d (suc (suc (l.j - 1))) c.args.d.levels (omega (arith, c.loop-j-test.true, l.invariant.few))))
-
-pub loop-j-smaller : goal.loop-j-smaller
-loop-j-smaller c = omega (arith, c.loop-j-test.true)
 
 pub loop-j-preserved : goal.loop-j-preserved
 loop-j-preserved c = balance_turn _ _ _ c.loop-j.j (omega (arith, c.loop-j-test.true)) c.level_at.ensures c.balance_level.ensures c.loop-j.invariant

@@ -4,6 +4,3 @@ use Rattle.balance.proofs.balance.Given as goal
 
 abbrev pub invariant-loop-j : goal.invariant-loop-j
 invariant-loop-j l = Balanced (roots_of l.d) l.d.levels l.initial.s l.s l.j
-
-abbrev pub decreases-loop-j : goal.decreases-loop-j
-decreases-loop-j l = l.j

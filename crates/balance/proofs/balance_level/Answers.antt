@@ -1,27 +1,23 @@
-use mathlib.Core.Path.{refl}
 use native.Mathlib.Omega.{arith}
 use Rattle.octants.proofs.Levels.{rows_few}
 use Rattle.octree.proofs.Sweeping.{rows_start, rows_end}
 use Rattle.balance.proofs.Rowing.{asked_again, balanced_more}
 use Rattle.balance.proofs.balance_level.Goals as goal
 
-pub overflow_mul-rows : goal.overflow_mul-rows
-overflow_mul-rows c = omega (arith, rows_few c.requires.stacked.counts)
+pub overflow_mul-q-end : goal.overflow_mul-q-end
+overflow_mul-q-end c = omega (arith, rows_few c.requires.stacked.counts)
 
 pub loop-q-init : goal.loop-q-init
-loop-q-init c = (omega arith, refl, rows_start _ _ _ _)
+loop-q-init c = rows_start _ _ _ _
 
 pub balance_row-requires : goal.balance_row-requires
-balance_row-requires c = (asked_again c.requires c.loop-q.invariant.2.long, omega (arith, c.loop-q-test.true, c.loop-q.invariant.1))
-
-pub overflow_add-q : goal.overflow_add-q
-overflow_add-q c = omega (arith, c.loop-q-test.true, c.loop-q.invariant.1, rows_few c.requires.stacked.counts)
+balance_row-requires c = (asked_again c.requires c.loop-q.invariant.long, c.loop-q-test.true)
 
 pub loop-q-preserved : goal.loop-q-preserved
-loop-q-preserved c = (omega arith, c.loop-q.invariant.1, balanced_more c.args.v _ (omega (arith, c.loop-q-test.true, c.loop-q.invariant.1)) c.loop-q.invariant.2 c.balance_row.ensures)
+loop-q-preserved c = balanced_more c.args.v _ c.loop-q-test.true c.loop-q.invariant c.balance_row.ensures
 
 pub shape_of-s : goal.shape_of-s
-shape_of-s c = c.loop-q.invariant.2.long
+shape_of-s c = c.loop-q.invariant.long
 
 pub returns : goal.returns
-returns c = let v = c.args.v in rows_end v.nx v.ny v.nz _ c.loop-q.invariant.2 (omega (arith, c.loop-q.invariant)) (omega (arith, c.loop-q.invariant.1, c.loop-q-test.false))
+returns c = let v = c.args.v in rows_end v.nx v.ny v.nz _ c.loop-q.invariant c.loop-q.auto.q-end c.loop-q-test.false

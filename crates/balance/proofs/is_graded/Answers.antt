@@ -20,38 +20,32 @@ told : (d : Roots) (s : List ℕ) (j : ℕ) {v : Level} {r : Bool} → v ≡ lev
     → r ≡ any (size (depth (roots_of d) j)) (unsteady (roots_of d) s j)
 told d s j e f = f ∙ level_unsteady (roots_of d) j e s
 
-pub overflow_sub-top : goal.overflow_sub-top
-overflow_sub-top c = c.requires.1
-
 pub loop-j-init : goal.loop-j-init
 unfolding any
-loop-j-init c = (omega arith, refl, refl)
+loop-j-init c = refl
 
 pub level_at-requires : goal.level_at-requires
-level_at-requires c = let p = c.requires.0 in (p.roots, omega (arith, p.levels, c.loop-j.invariant.1, c.loop-j-test.true))
+level_at-requires c = let p = c.requires.0 in (p.roots, omega (arith, p.levels, c.loop-j-test.true))
 
 pub level_unsteady-requires : goal.level_unsteady-requires
 level_unsteady-requires c =
     let d = roots_of c.args.d in
     let p = c.requires.0 in
     let l = c.loop-j in
-    level_asked d l.j c.level_at.ensures p.roots (omega (arith, p.levels, l.invariant.1, c.loop-j-test.true))
-    (omega (arith, p.octants, off_le d (suc (suc l.j)) c.args.d.levels (omega (arith, c.loop-j-test.true, l.invariant.1))))
+    level_asked d l.j c.level_at.ensures p.roots (omega (arith, p.levels, c.loop-j-test.true))
+    (omega (arith, p.octants, off_le d (suc (suc l.j)) c.args.d.levels (omega (arith, c.loop-j-test.true))))
 
 pub returns-then-level_unsteady : goal.returns-then-level_unsteady
 returns-then-level_unsteady c =
     let a = c.args in
     let l = c.loop-j in
-    graded_not (roots_of a.d) a.d.levels l.j a.s.now (omega (arith, l.invariant.1, c.loop-j-test.true)) (sym (told c.args.d c.args.s.now c.loop-j.j c.level_at.ensures c.level_unsteady.ensures) ∙ c.if-level_unsteady.true)
-
-pub overflow_add-j : goal.overflow_add-j
-overflow_add-j c = omega (arith, c.loop-j-test.true)
+    graded_not (roots_of a.d) a.d.levels l.j a.s.now c.loop-j-test.true (sym (told c.args.d c.args.s.now c.loop-j.j c.level_at.ensures c.level_unsteady.ensures) ∙ c.if-level_unsteady.true)
 
 pub loop-j-preserved : goal.loop-j-preserved
-loop-j-preserved c = (omega arith, c.loop-j.invariant.1, any_more _ _ c.loop-j.invariant.2 (sym (told c.args.d c.args.s.now c.loop-j.j c.level_at.ensures c.level_unsteady.ensures) ∙ c.if-level_unsteady.false))
+loop-j-preserved c = any_more _ _ c.loop-j.invariant (sym (told c.args.d c.args.s.now c.loop-j.j c.level_at.ensures c.level_unsteady.ensures) ∙ c.if-level_unsteady.false)
 
 pub returns : goal.returns
 returns c =
     let a = c.args in
     let l = c.loop-j in
-    graded_all (roots_of a.d) a.d.levels l.j a.s.now (omega (arith, l.invariant)) (omega (arith, l.invariant.1, c.loop-j-test.false)) l.invariant.2
+    graded_all (roots_of a.d) a.d.levels l.j a.s.now l.auto.j-end c.loop-j-test.false l.invariant

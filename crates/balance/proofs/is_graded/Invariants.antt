@@ -1,6 +1,5 @@
 use mathlib.Core.Path.{◌≡◌}
 use mathlib.Core.Bool.{false}
-use Prim.Native.Nat.{◌-◌, ◌≤◌}
 use Rattle.lists.specs.Tests.{any}
 use Rattle.space.specs.Levels.{depth, size}
 use Rattle.octants.specs.Judge.{unsteady}
@@ -8,7 +7,4 @@ use Rattle.octree.specs.Parts.{roots_of}
 use Rattle.balance.proofs.is_graded.Given as goal
 
 abbrev pub invariant-loop-j : goal.invariant-loop-j
-invariant-loop-j l = (l.j ≤ l.top) × (l.top ≡ l.d.levels - 1) × (any l.j (λ k. any (size (depth (roots_of l.d) k)) (unsteady (roots_of l.d) l.s k)) ≡ false)
-
-abbrev pub decreases-loop-j : goal.decreases-loop-j
-decreases-loop-j l = l.top - l.j
+invariant-loop-j l = any l.j (λ k. any (size (depth (roots_of l.d) k)) (unsteady (roots_of l.d) l.s k)) ≡ false

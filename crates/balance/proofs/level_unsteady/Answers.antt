@@ -15,30 +15,27 @@ use Rattle.balance.proofs.level_unsteady.Goals as goal
 abbrev rows : List ℕ → Level → ℕ → Bool
 rows s v q = any v.nx (λ x. gives s v (q * v.nx + x))
 
-pub overflow_mul-rows : goal.overflow_mul-rows
-overflow_mul-rows c = omega (arith, rows_few c.requires.stacked.counts)
+pub overflow_mul-q-end : goal.overflow_mul-q-end
+overflow_mul-q-end c = omega (arith, rows_few c.requires.stacked.counts)
 
 pub loop-q-init : goal.loop-q-init
 unfolding any
-loop-q-init c = (omega arith, refl, refl)
+loop-q-init c = refl
 
 pub row_unsteady-requires : goal.row_unsteady-requires
-row_unsteady-requires c = (c.requires, omega (arith, c.loop-q-test.true, c.loop-q.invariant.1))
+row_unsteady-requires c = (c.requires, c.loop-q-test.true)
 
 pub returns-then-row_unsteady : goal.returns-then-row_unsteady
 returns-then-row_unsteady c =
     let v = c.args.v in
-    any_found (rows c.args.s.now c.args.v) (v.ny * v.nz) c.loop-q.q (omega (arith, c.loop-q-test.true, c.loop-q.invariant.1)) (sym c.row_unsteady.ensures ∙ c.if-row_unsteady.true)
+    any_found (rows c.args.s.now c.args.v) (v.ny * v.nz) c.loop-q.q c.loop-q-test.true (sym c.row_unsteady.ensures ∙ c.if-row_unsteady.true)
     ∙ level_gives v.nx v.ny v.nz (gives c.args.s.now v)
 
-pub overflow_add-q : goal.overflow_add-q
-overflow_add-q c = omega (arith, c.loop-q-test.true, c.loop-q.invariant.1, rows_few c.requires.stacked.counts)
-
 pub loop-q-preserved : goal.loop-q-preserved
-loop-q-preserved c = (omega arith, c.loop-q.invariant.1, any_more (rows c.args.s.now c.args.v) _ c.loop-q.invariant.2 (sym c.row_unsteady.ensures ∙ c.if-row_unsteady.false))
+loop-q-preserved c = any_more (rows c.args.s.now c.args.v) _ c.loop-q.invariant (sym c.row_unsteady.ensures ∙ c.if-row_unsteady.false)
 
 pub returns : goal.returns
 returns c =
     let v = c.args.v in
-    any_none (rows c.args.s.now c.args.v) (v.ny * v.nz) _ (omega (arith, c.loop-q.invariant)) (omega (arith, c.loop-q.invariant.1, c.loop-q-test.false)) c.loop-q.invariant.2
+    any_none (rows c.args.s.now c.args.v) (v.ny * v.nz) _ c.loop-q.auto.q-end c.loop-q-test.false c.loop-q.invariant
     ∙ level_gives v.nx v.ny v.nz (gives c.args.s.now v)

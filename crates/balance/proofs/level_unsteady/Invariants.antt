@@ -1,12 +1,9 @@
 use mathlib.Core.Path.{◌≡◌}
 use mathlib.Core.Bool.{false}
-use Prim.Native.Nat.{◌+◌, ◌*◌, ◌-◌, ◌≤◌}
+use Prim.Native.Nat.{◌+◌, ◌*◌}
 use Rattle.lists.specs.Tests.{any}
 use Rattle.balance.specs.Parts.{gives}
 use Rattle.balance.proofs.level_unsteady.Given as goal
 
 abbrev pub invariant-loop-q : goal.invariant-loop-q
-invariant-loop-q l = (l.q ≤ l.rows) × (l.rows ≡ l.v.ny * l.v.nz) × (any l.q (λ k. any l.v.nx (λ x. gives l.s l.v (k * l.v.nx + x))) ≡ false)
-
-abbrev pub decreases-loop-q : goal.decreases-loop-q
-decreases-loop-q l = l.rows - l.q
+invariant-loop-q l = any l.q (λ k. any l.v.nx (λ x. gives l.s l.v (k * l.v.nx + x))) ≡ false

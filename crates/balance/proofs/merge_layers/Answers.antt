@@ -17,7 +17,7 @@ layer_room : (v : Level) {z z1 : ℕ} → z1 ≤ v.nz → z < z1 → z * (v.nx *
 layer_room v p h = omega (arith, mul-le-mul_right (v.nx * v.ny) h, mul-le-mul_right (v.nx * v.ny) p)
 
 pub loop-z-init : goal.loop-z-init
-loop-z-init c = (omega arith, c.requires.layers, marks_none _ _ _ (layers c.args.s.now c.args.v c.args.y0 c.args.y1))
+loop-z-init c = marks_none _ _ _ (layers c.args.s.now c.args.v c.args.y0 c.args.y1)
 
 pub overflow_mul-w : goal.overflow_mul-w
 overflow_mul-w c = omega (arith, c.requires.small)
@@ -31,13 +31,13 @@ overflow_add-o c = omega (arith, c.requires.held, layer_room c.args.v c.requires
 pub merge_rows-requires : goal.merge_rows-requires
 merge_rows-requires c =
     let p = c.requires in
-    (omega (arith, p.room, c.loop-z.invariant.2.long), p.rows, omega (arith, p.held, layer_room c.args.v c.requires.layers_in c.loop-z-test.true, mul-le-mul_right c.args.v.nx p.rows_in))
+    (omega (arith, p.room, c.loop-z.invariant.long), p.rows, omega (arith, p.held, layer_room c.args.v c.requires.layers_in c.loop-z-test.true, mul-le-mul_right c.args.v.nx p.rows_in))
 
 pub loop-z-preserved : goal.loop-z-preserved
-loop-z-preserved c = (omega arith, omega arith, marks_more _ _ (layers c.args.s.now c.args.v c.args.y0 c.args.y1) c.loop-z.invariant.0 c.loop-z.invariant.2 c.merge_rows.ensures)
+loop-z-preserved c = marks_more _ _ (layers c.args.s.now c.args.v c.args.y0 c.args.y1) c.loop-z.auto.z c.loop-z.invariant c.merge_rows.ensures
 
 pub shape_of-seen : goal.shape_of-seen
-shape_of-seen c = c.loop-z.invariant.2.long
+shape_of-seen c = c.loop-z.invariant.long
 
 pub returns : goal.returns
-returns c = marks_end _ _ _ (layers c.args.s.now c.args.v c.args.y0 c.args.y1) c.loop-z.invariant.2 c.loop-z.invariant.1 c.loop-z-test.false
+returns c = marks_end _ _ _ (layers c.args.s.now c.args.v c.args.y0 c.args.y1) c.loop-z.invariant (c.loop-z.auto.z-end c.requires.layers) c.loop-z-test.false

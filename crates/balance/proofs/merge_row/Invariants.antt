@@ -1,10 +1,7 @@
-use Prim.Native.Nat.{◌+◌, ◌-◌, ◌≤◌}
+use Prim.Native.Nat.{◌+◌}
 use Rattle.octree.specs.Sweep.{one}
 use Rattle.balance.specs.Parts.{Merged}
 use Rattle.balance.proofs.merge_row.Given as goal
 
 abbrev pub invariant-loop-x : goal.invariant-loop-x
-invariant-loop-x l = (l.x ≤ l.w) × Merged l.initial.seen l.seen l.x (λ k. one l.s (l.o + k))
-
-abbrev pub decreases-loop-x : goal.decreases-loop-x
-decreases-loop-x l = l.w - l.x
+invariant-loop-x l = Merged l.initial.seen l.seen l.x (λ k. one l.s (l.o + k))

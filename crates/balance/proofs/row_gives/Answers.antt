@@ -10,7 +10,7 @@ use Rattle.balance.proofs.row_gives.Goals as goal
 
 pub loop-x-init : goal.loop-x-init
 unfolding any
-loop-x-init c = (omega arith, refl)
+loop-x-init c = refl
 
 pub overflow_add-j : goal.overflow_add-j
 overflow_add-j c = omega (arith, c.requires)
@@ -30,11 +30,8 @@ returns-then-is_unsteady c =
     let a = c.args in
     any_found (λ k. not (one a.s.now (a.i + k)) && touched_of a.seen.now k) a.n c.loop-x.x c.loop-x-test.true (test _ _ _ c.touched.ensures c.is_unsteady.ensures ∙ c.if-is_unsteady.true)
 
-pub overflow_add-x : goal.overflow_add-x
-overflow_add-x c = omega (arith, c.requires)
-
 pub loop-x-preserved : goal.loop-x-preserved
-loop-x-preserved c = (omega arith, any_more _ _ c.loop-x.invariant.1 (test _ _ _ c.touched.ensures c.is_unsteady.ensures ∙ c.if-is_unsteady.false))
+loop-x-preserved c = any_more _ _ c.loop-x.invariant (test _ _ _ c.touched.ensures c.is_unsteady.ensures ∙ c.if-is_unsteady.false)
 
 pub returns : goal.returns
-returns c = any_none _ _ _ c.loop-x.invariant.0 c.loop-x-test.false c.loop-x.invariant.1
+returns c = any_none _ _ _ c.loop-x.auto.x-end c.loop-x-test.false c.loop-x.invariant

@@ -4,28 +4,25 @@ use Rattle.balance.proofs.Rowing.{split_at}
 use Rattle.balance.proofs.split_row.Goals as goal
 
 pub loop-x-init : goal.loop-x-init
-loop-x-init c = (omega arith, swept_none _ _ _)
+loop-x-init c = swept_none _ _ _
 
 pub overflow_add-j : goal.overflow_add-j
 overflow_add-j c = omega (arith, c.requires)
 
 pub bounds-s-j : goal.bounds-s-j
-bounds-s-j c = omega (arith, c.requires, c.loop-x.invariant.1.long)
+bounds-s-j c = omega (arith, c.requires, c.loop-x.invariant.long)
 
 pub touched-requires : goal.touched-requires
 touched-requires c = omega (arith, c.requires)
 
 pub bounds-s-j-in-loop-x : goal.bounds-s-j-in-loop-x
-bounds-s-j-in-loop-x c = omega (arith, c.requires, c.loop-x.invariant.1.long)
-
-pub overflow_add-x : goal.overflow_add-x
-overflow_add-x c = omega (arith, c.requires)
+bounds-s-j-in-loop-x c = omega (arith, c.requires, c.loop-x.invariant.long)
 
 pub loop-x-preserved : goal.loop-x-preserved
-loop-x-preserved c = (omega arith, swept_more _ c.loop-x.invariant.1 (omega (arith, c.requires, c.loop-x.invariant.1.long)) (split_at c.args.seen.now c.loop-x.invariant.1 c.split_byte-v.ensures c.touched.ensures))
+loop-x-preserved c = swept_more _ c.loop-x.invariant (omega (arith, c.requires, c.loop-x.invariant.long)) (split_at c.args.seen.now c.loop-x.invariant c.split_byte.ensures c.touched.ensures)
 
 pub shape_of-s : goal.shape_of-s
-shape_of-s c = c.loop-x.invariant.1.long
+shape_of-s c = c.loop-x.invariant.long
 
 pub returns : goal.returns
-returns c = swept_end _ c.loop-x.invariant.1 c.loop-x.invariant.0 c.loop-x-test.false
+returns c = swept_end _ c.loop-x.invariant c.loop-x.auto.x-end c.loop-x-test.false

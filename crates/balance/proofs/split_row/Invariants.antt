@@ -1,12 +1,9 @@
 use mathlib.Core.Bool.{◌||◌}
-use Prim.Native.Nat.{◌+◌, ◌-◌, ◌≤◌}
+use Prim.Native.Nat.{◌+◌}
 use Rattle.lists.specs.Tests.{bit}
 use Rattle.octree.specs.Sweep.{one, Swept}
 use Rattle.balance.specs.Parts.{touched_of}
 use Rattle.balance.proofs.split_row.Given as goal
 
 abbrev pub invariant-loop-x : goal.invariant-loop-x
-invariant-loop-x l = (l.x ≤ l.n) × Swept l.initial.s l.s l.i l.x (λ k. bit (one l.initial.s (l.i + k) || touched_of l.seen k))
-
-abbrev pub decreases-loop-x : goal.decreases-loop-x
-decreases-loop-x l = l.n - l.x
+invariant-loop-x l = Swept l.initial.s l.s l.i l.x (λ k. bit (one l.initial.s (l.i + k) || touched_of l.seen k))
