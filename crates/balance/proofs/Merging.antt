@@ -1,57 +1,16 @@
 -- Marking the shell of a row. Assumes nothing.
 use mathlib.Core.Path.{◌≡◌, refl, ap, sym, ◌∙◌, subst}
-use mathlib.Core.Bool.{Bool, true, false, ◌||◌, or-true, or-false, or_assoc}
+use mathlib.Core.Bool.{Bool, true, false, ◌||◌, or-false, or_assoc}
 use mathlib.Core.List.{List}
 use Prim.Native.Nat.{ℕ, zero, suc, ◌+◌, ◌*◌, ◌≤◌, ◌<◌}
 use native.Mathlib.Omega.{arith}
 use native.Mathlib.Nat.{mul-le-mul_right}
 use native.Mathlib.Numerals.{add-one}
-use native.Mathlib.Decide.{dec_le}
 use borrow.Author.Tests.{le-leb, lt-leb}
-use lib.Dec.{eqb}
-use lib.ListN.{length, get_or, set, length-set}
-use lib.Seq.{get_or-set_same, get_or-set_other}
 use Rattle.lists.specs.Tests.{any}
 use Rattle.lists.proofs.Any.{any_found}
 use Rattle.octree.specs.Sweep.{one}
 use Rattle.balance.specs.Parts.{from, some, Merged, touched_of}
-
--- what `mark` gives
-pub mark_one : (a b : ℕ) → eqb b 1 ≡ true → true ≡ eqb a 1 || eqb b 1
-mark_one a b h = sym (or-true (eqb a 1)) ∙ ap (λ (t : Bool). eqb a 1 || t) (sym h)
-
-pub mark_none : (a b : ℕ) → eqb b 1 ≡ false → eqb a 1 ≡ eqb a 1 || eqb b 1
-mark_none a b h = sym (or-false (eqb a 1)) ∙ ap (λ (t : Bool). eqb a 1 || t) (sym h)
-
--- ---- a run of marks
-
-pub merged_none : (a : List ℕ) (f : ℕ → Bool) → Merged a a 0 f
-merged_none a f = record { long = refl; marks = λ x h. absurd (omega arith); before = refl; past = λ j h. refl }
-
-pub merged_more : {a b : List ℕ} {x : ℕ} {f : ℕ → Bool} (v : ℕ) → Merged a b x f → x + 1 < length b → eqb v 1 ≡ (eqb (get_or b (x + 1) 0) 1 || f x)
-    → Merged a (set b (x + 1) v) (x + 1) f
-merged_more {a} {b} {x} {f} v w h p =
-    record {
-      long = length-set b (x + 1) v ∙ w.long;
-      marks = marks';
-      before = ap (λ (k : ℕ). eqb k 1) (get_or-set_other b (x + 1) 0 v 0 (omega arith)) ∙ w.before;
-      past = λ j q. ap (λ (k : ℕ). eqb k 1) (get_or-set_other b (x + 1) j v 0 (omega arith)) ∙ w.past j (omega arith);
-    }
-  where
-    marks' : (i : ℕ) → i < x + 1 → one (set b (x + 1) v) (i + 1) ≡ one a (i + 1) || f i
-    marks' i q = go (dec_le x i)
-      where
-        go : Dec (x ≤ i) → one (set b (x + 1) v) (i + 1) ≡ one a (i + 1) || f i
-        go (yes g) =
-            let e : x ≡ i = omega arith in
-            subst (λ (k : ℕ). one (set b (x + 1) v) (k + 1) ≡ one a (k + 1) || f k) e
-            (ap (λ (k : ℕ). eqb k 1) (get_or-set_same b (x + 1) v 0 h) ∙ p ∙ ap (λ (t : Bool). t || f x) (w.past (x + 1) (omega arith)))
-        go (no g) = ap (λ (k : ℕ). eqb k 1) (get_or-set_other b (x + 1) (i + 1) v 0 (omega arith)) ∙ w.marks i (omega arith)
-
-pub merged_end : {a b : List ℕ} {x : ℕ} {f : ℕ → Bool} (n : ℕ) → Merged a b x f → x ≤ n → n ≤ x → Merged a b n f
-merged_end {a} {b} {x} {f} n w p q =
-    let e : x ≡ n = omega arith in
-    subst (λ (k : ℕ). Merged a b k f) e w
 
 -- ---- rows after one another
 

@@ -8,9 +8,6 @@ use Rattle.balance.proofs.balance.Goals as goal
 pub loop-j-init : goal.loop-j-init
 loop-j-init c = let p = c.requires in balance_start _ _ _ _ (omega (arith, p.1)) p.0.octants p.2
 
-pub level_at-requires : goal.level_at-requires
-level_at-requires c = let p = c.requires.0 in (p.roots, omega (arith, p.levels, c.loop-j.invariant.few))
-
 pub balance_level-requires : goal.balance_level-requires
 balance_level-requires c =
     let d = roots_of c.args.d in
@@ -21,9 +18,6 @@ balance_level-requires c =
 
 pub loop-j-preserved : goal.loop-j-preserved
 loop-j-preserved c = balance_turn _ _ _ c.loop-j.j (omega (arith, c.loop-j-test.true)) c.level_at.ensures c.balance_level.ensures c.loop-j.invariant
-
-pub shape_of-s : goal.shape_of-s
-shape_of-s c = c.loop-j.invariant.long
 
 pub returns : goal.returns
 returns c = balance_end _ _ _ _ _ c.loop-j-test.false c.requires.0.octants c.loop-j.invariant

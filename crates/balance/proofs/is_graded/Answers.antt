@@ -24,9 +24,6 @@ pub loop-j-init : goal.loop-j-init
 unfolding any
 loop-j-init c = refl
 
-pub level_at-requires : goal.level_at-requires
-level_at-requires c = let p = c.requires.0 in (p.roots, omega (arith, p.levels, c.loop-j-test.true))
-
 pub level_unsteady-requires : goal.level_unsteady-requires
 level_unsteady-requires c =
     let d = roots_of c.args.d in

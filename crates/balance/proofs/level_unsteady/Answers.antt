@@ -22,9 +22,6 @@ pub loop-q-init : goal.loop-q-init
 unfolding any
 loop-q-init c = refl
 
-pub row_unsteady-requires : goal.row_unsteady-requires
-row_unsteady-requires c = (c.requires, c.loop-q-test.true)
-
 pub returns-then-row_unsteady : goal.returns-then-row_unsteady
 returns-then-row_unsteady c =
     let v = c.args.v in

@@ -1,9 +1,8 @@
 use mathlib.Core.Path.{◌≡◌, refl, sym, ap, ◌∙◌}
 use mathlib.Core.Bool.{Bool, not, ◌&&◌}
 use Prim.Native.Nat.{◌+◌}
-use native.Mathlib.Omega.{arith}
 use Rattle.lists.specs.Tests.{any}
-use Rattle.lists.proofs.Any.{any_more, any_found, any_none}
+use Rattle.lists.proofs.Any.{any_more, any_found}
 use Rattle.octree.specs.Sweep.{one}
 use Rattle.balance.specs.Parts.{touched_of}
 use Rattle.balance.proofs.row_gives.Goals as goal
@@ -11,15 +10,6 @@ use Rattle.balance.proofs.row_gives.Goals as goal
 pub loop-x-init : goal.loop-x-init
 unfolding any
 loop-x-init c = refl
-
-pub overflow_add-j : goal.overflow_add-j
-overflow_add-j c = omega (arith, c.requires)
-
-pub bounds-s-j : goal.bounds-s-j
-bounds-s-j c = omega (arith, c.requires)
-
-pub touched-requires : goal.touched-requires
-touched-requires c = omega (arith, c.requires)
 
 -- the test of a turn is the test at x
 test : (b t r : Bool) {u : Bool} → t ≡ u → r ≡ (not b && t) → not b && u ≡ r
@@ -32,6 +22,3 @@ returns-then-is_unsteady c =
 
 pub loop-x-preserved : goal.loop-x-preserved
 loop-x-preserved c = any_more _ _ c.loop-x.invariant (test _ _ _ c.touched.ensures c.is_unsteady.ensures ∙ c.if-is_unsteady.false)
-
-pub returns : goal.returns
-returns c = any_none _ _ _ c.loop-x.auto.x-end c.loop-x-test.false c.loop-x.invariant

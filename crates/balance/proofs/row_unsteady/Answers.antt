@@ -3,12 +3,6 @@ use native.Mathlib.Omega.{arith}
 use Rattle.balance.proofs.Rowing.{blank, row_in, row_gives}
 use Rattle.balance.proofs.row_unsteady.Goals as goal
 
-pub nonzero_rem-q : goal.nonzero_rem-q
-nonzero_rem-q c = omega (arith, row_in c.requires)
-
-pub nonzero_div-q : goal.nonzero_div-q
-nonzero_div-q c = omega (arith, row_in c.requires)
-
 pub shell-requires : goal.shell-requires
 shell-requires c = let p = c.requires in let r = row_in p in (blank _ (omega (arith, r.short)), p.0.stacked, r.y, r.z)
 

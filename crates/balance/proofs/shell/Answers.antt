@@ -3,9 +3,6 @@ use Rattle.space.specs.Space.{ay, az}
 use Rattle.balance.proofs.Shells.{shell_asked, shell_tells}
 use Rattle.balance.proofs.shell.Goals as goal
 
-pub below-p-requires : goal.below-p-requires
-below-p-requires c = let p = c.requires.1 in (p.counts, omega (arith, p.room))
-
 pub first_near-requires : goal.first_near-requires
 first_near-requires c = omega (arith, c.requires.1.counts.few ay)
 
