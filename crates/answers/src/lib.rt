@@ -16,10 +16,7 @@ use octree::{Level, Roots, below, level_at, slot_of};
 fn cleared(b: u8, over: u8) -> u8
     ensures { result ≡ bit (eqb b 1 && eqb over 1) }
 {
-    if b != 1 {
-        return 0;
-    }
-    if over == 1 { 1 } else { 0 }
+    u8::from(b == 1 && over == 1)
 }
 
 // Clears what is not under an octant that counts in the row of w octants that begins at i. The octants over them begin at q.
@@ -27,13 +24,9 @@ fn clear_row(s: &mut [u8], i: usize, w: usize, q: usize)
     requires { (i + w ≤ length s.old) × (q + (w + 1) / 2 ≤ i) }
     ensures { Swept s.old s.new i w (λ x. bit (one s.old (i + x) && one s.old (q + x / 2))) }
 {
-    let mut x = 0;
-    while x < w {
+    for x in 0..w {
         let j = i + x;
-        let over = q + x / 2;
-        let v = cleared(s[j], s[over]);
-        s[j] = v;
-        x += 1;
+        s[j] = cleared(s[j], s[q + x / 2]);
     }
 }
 
@@ -43,7 +36,7 @@ fn clear_row_at(s: &mut [u8], v: Level, r: usize)
     ensures { Swept s.old s.new ((below_of v).start + r * (below_of v).nx) (below_of v).nx (λ x. cleared_byte s.old v (r * (below_of v).nx + x)) }
 {
     let p = below(v);
-    let over = v.start + slot_of(v.nx, v.ny, 0, r % p.ny / 2, r / p.ny / 2);
+    let over = v.start + slot_of(v, 0, r % p.ny / 2, r / p.ny / 2);
     clear_row(s, p.start + r * p.nx, p.nx, over);
 }
 
@@ -53,11 +46,8 @@ fn clear_level(s: &mut [u8], v: Level)
     ensures { Swept s.old s.new (below_of v).start (size (counts_of (below_of v))) (cleared_byte s.old v) }
 {
     let p = below(v);
-    let rows = p.ny * p.nz;
-    let mut r = 0;
-    while r < rows {
+    for r in 0..p.ny * p.nz {
         clear_row_at(s, v, r);
-        r += 1;
     }
 }
 
@@ -66,10 +56,7 @@ pub fn clear(s: &mut [u8], d: Roots)
     requires { Covers d (length s.old) × (1 ≤ d.levels) × (all_at_most 1 s.old ≡ true) }
     ensures { s.new ≡ raw_of (roots_of d) d.levels s.old }
 {
-    let top = d.levels - 1;
-    let mut j = 0;
-    while j < top {
+    for j in 0..d.levels - 1 {
         clear_level(s, level_at(d, j));
-        j += 1;
     }
 }

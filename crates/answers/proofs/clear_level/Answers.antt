@@ -15,23 +15,20 @@ many v e = ap (λ (p : Level). p.ny * p.nz) e
 pub below-p-requires : goal.below-p-requires
 below-p-requires c = let p = c.requires in (p.counts, omega (arith, p.room))
 
-pub overflow_mul-rows : goal.overflow_mul-rows
-overflow_mul-rows c = omega (arith, many c.args.v c.below-p.ensures, rows_few c.requires.counts)
+pub overflow_mul-r-end : goal.overflow_mul-r-end
+overflow_mul-r-end c = omega (arith, many c.args.v c.below-p.ensures, rows_few c.requires.counts)
 
 pub loop-r-init : goal.loop-r-init
-loop-r-init c = (omega arith, many c.args.v c.below-p.ensures, rows_start _ _ _ _)
+loop-r-init c = rows_start _ _ _ _
 
 pub clear_row_at-requires : goal.clear_row_at-requires
-clear_row_at-requires c = (stacked_again c.requires c.loop-r.invariant.2.long, omega (arith, c.loop-r-test.true, c.loop-r.invariant.1))
-
-pub overflow_add-r : goal.overflow_add-r
-overflow_add-r c = omega (arith, c.loop-r-test.true, c.loop-r.invariant.1, rows_few c.requires.counts)
+clear_row_at-requires c = (stacked_again c.requires c.loop-r.invariant.long, omega (arith, many c.args.v c.below-p.ensures, c.loop-r-test.true))
 
 pub loop-r-preserved : goal.loop-r-preserved
-loop-r-preserved c = (omega arith, c.loop-r.invariant.1, cleared_more c.args.v _ (omega (arith, c.loop-r-test.true, c.loop-r.invariant.1)) c.loop-r.invariant.2 c.clear_row_at.ensures)
+loop-r-preserved c = cleared_more c.args.v _ (omega (arith, many c.args.v c.below-p.ensures, c.loop-r-test.true)) c.loop-r.invariant c.clear_row_at.ensures
 
 pub shape_of-s : goal.shape_of-s
-shape_of-s c = c.loop-r.invariant.2.long
+shape_of-s c = c.loop-r.invariant.long
 
 pub returns : goal.returns
-returns c = let p = below_of c.args.v in rows_end p.nx p.ny p.nz _ c.loop-r.invariant.2 (omega (arith, c.loop-r.invariant)) (omega (arith, c.loop-r.invariant.1, c.loop-r-test.false))
+returns c = let p = below_of c.args.v in rows_end p.nx p.ny p.nz _ c.loop-r.invariant (omega (arith, many c.args.v c.below-p.ensures, c.loop-r.auto.r-end)) (omega (arith, many c.args.v c.below-p.ensures, c.loop-r-test.false))

@@ -6,7 +6,4 @@ use Rattle.answers.specs.Parts.{cleared_byte}
 use Rattle.answers.proofs.clear_level.Given as goal
 
 abbrev pub invariant-loop-r : goal.invariant-loop-r
-invariant-loop-r l = (l.r ≤ l.rows) × (l.rows ≡ (below_of l.v).ny * (below_of l.v).nz) × Swept l.initial.s l.s (below_of l.v).start (l.r * (below_of l.v).nx) (cleared_byte l.initial.s l.v)
-
-abbrev pub decreases-loop-r : goal.decreases-loop-r
-decreases-loop-r l = l.rows - l.r
+invariant-loop-r l = Swept l.initial.s l.s (below_of l.v).start (l.r * (below_of l.v).nx) (cleared_byte l.initial.s l.v)

@@ -6,7 +6,4 @@ use Rattle.octree.specs.Sweep.{Swept}
 use Rattle.answers.proofs.clear_row.Given as goal
 
 abbrev pub invariant-loop-x : goal.invariant-loop-x
-invariant-loop-x l = (l.x ≤ l.w) × Swept l.initial.s l.s l.i l.x (λ k. bit (one l.initial.s (l.i + k) && one l.initial.s (l.q + k / 2)))
-
-abbrev pub decreases-loop-x : goal.decreases-loop-x
-decreases-loop-x l = l.w - l.x
+invariant-loop-x l = Swept l.initial.s l.s l.i l.x (λ k. bit (one l.initial.s (l.i + k) && one l.initial.s (l.q + k / 2)))
