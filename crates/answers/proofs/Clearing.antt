@@ -24,11 +24,6 @@ use Rattle.octree.proofs.Sweeping.{swept_cong, rows_more, row_layer, row_fits, r
 use Rattle.octree.proofs.Showing.{shows_at, shows_table, shows_read, shows_part, read_one, shows_above, shows_join}
 use Rattle.answers.specs.Parts.{cleared_byte}
 
--- what a turn of `clear_row` stores: it reads a byte not yet written, and one of the level above
-pub clear_at : {e s : List ℕ} {i x v : ℕ} {f : ℕ → ℕ} (q : ℕ) → Swept e s i x f → v ≡ bit (one s (i + x) && one s (q + x / 2)) → q + x / 2 < i
-    → v ≡ bit (one e (i + x) && one e (q + x / 2))
-clear_at {i = i} {x = x} q w h g = h ∙ rw (w.high (i + x) (omega arith), w.low (q + x / 2) g)
-
 -- ---- rows
 
 -- where the octant over the first one of row r stands, in the level v; p is the level below

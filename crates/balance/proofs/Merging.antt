@@ -1,10 +1,9 @@
 -- Marking the shell of a row. Assumes nothing.
-use mathlib.Core.Path.{◌≡◌, refl, ap, sym, ◌∙◌, subst}
+use mathlib.Core.Path.{◌≡◌, refl, ap, sym, ◌∙◌}
 use mathlib.Core.Bool.{Bool, true, false, ◌||◌, or-false, or_assoc}
 use mathlib.Core.List.{List}
 use Prim.Native.Nat.{ℕ, zero, suc, ◌+◌, ◌*◌, ◌≤◌, ◌<◌}
 use native.Mathlib.Omega.{arith}
-use native.Mathlib.Nat.{mul-le-mul_right}
 use native.Mathlib.Numerals.{add-one}
 use borrow.Author.Tests.{le-leb, lt-leb}
 use Rattle.lists.specs.Tests.{any}
@@ -42,16 +41,6 @@ pub marks_more : {a b c : List ℕ} {w : ℕ} (lo y : ℕ) (F : ℕ → ℕ → 
     → Merged a c w (λ x. some lo (y + 1) (λ k. F k x))
 unfolding any
 marks_more lo y F h p q = merged_then p q (λ x. rw (add-one y, le-leb lo y h))
-
-pub marks_end : {a b : List ℕ} {w : ℕ} (lo y n : ℕ) (F : ℕ → ℕ → Bool) → Merged a b w (λ x. some lo y (λ k. F k x)) → y ≤ n → n ≤ y
-    → Merged a b w (λ x. some lo n (λ k. F k x))
-marks_end {a} {b} {w} lo y n F p h g =
-    let e : y ≡ n = omega arith in
-    subst (λ (k : ℕ). Merged a b w (λ x. some lo k (λ k. F k x))) e p
-
--- a row stands in the part of the table that its layer is in
-pub row_room : (o w y y1 len : ℕ) → y < y1 → o + y1 * w ≤ len → o + y * w + w ≤ len
-row_room o w y y1 len h f = omega (arith, mul-le-mul_right w h)
 
 -- the four entries, one by one
 module _ (seen : List ℕ) (x : ℕ) where

@@ -20,7 +20,6 @@ use Rattle.octants.proofs.TableLaws.{factor_right}
 use Rattle.octree.specs.Parts.{counts_of, below_of, in_level}
 use Rattle.octree.specs.Sweep.{one, Swept}
 use Rattle.octree.specs.declared.Level.{Level}
-use Rattle.octree.proofs.Levels.{stacked_again}
 use Rattle.octree.proofs.Sweeping.{swept_cong, rows_more, row_layer, row_fits, row_place}
 use Rattle.balance.specs.Parts.{touched_of, Blank, Seen, LevelAsked, touches, balanced_byte, gives}
 
@@ -40,14 +39,6 @@ row_in {s} {v} {q} h =
     let k = h.0.stacked in
     let r = row_layer v.nx v.ny v.nz q (k.counts.some ay) h.1 in
     record { some = k.counts.some ay; y = r.0; z = r.1; room = omega (arith, k.room, row_fits v.nx v.ny v.nz q h.1); short = h.0.short }
-
--- what a turn of `split_row` stores
-pub split_at : {e s : List ℕ} {i x v : ℕ} {f : ℕ → ℕ} {t : Bool} (seen : List ℕ) → Swept e s i x f → v ≡ bit (one s (i + x) || t) → t ≡ touched_of seen x
-    → v ≡ bit (one e (i + x) || touched_of seen x)
-split_at {i = i} {x = x} seen w h g = h ∙ rw (g, w.high (i + x) (omega arith))
-
-pub asked_again : {s t : List ℕ} {v : Level} → LevelAsked s v → length t ≡ length s → LevelAsked t v
-asked_again p e = record { stacked = stacked_again p.stacked e; short = p.short }
 
 pub any_cong : (n : ℕ) (f g : ℕ → Bool) → ((k : ℕ) → k < n → f k ≡ g k) → any n f ≡ any n g
 any_cong n f g e = bool_ext (any n f) (any n g) (go f g e) (go g f (λ k h. sym (e k h)))

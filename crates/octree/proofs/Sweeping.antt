@@ -58,16 +58,10 @@ swept_more {e} {s} {o} {r} {f} v w h p =
 pub swept_at : {e s : List ℕ} {o r : ℕ} {f : ℕ → ℕ} (n : ℕ) → Swept e s o r f → r ≡ n → Swept e s o n f
 swept_at {e} {s} {o} {r} {f} n w h = subst (λ (k : ℕ). Swept e s o k f) h w
 
-pub swept_end : {e s : List ℕ} {o r : ℕ} {f : ℕ → ℕ} (n : ℕ) → Swept e s o r f → r ≤ n → n ≤ r → Swept e s o n f
-swept_end n w p q = swept_at n w (omega arith)
-
 pub swept_cong : {e s : List ℕ} {o r : ℕ} {f : ℕ → ℕ} (g : ℕ → ℕ) → Swept e s o r f → ((i : ℕ) → i < r → f i ≡ g i) → Swept e s o r g
 swept_cong g w h = record { long = w.long; done = λ i q. w.done i q ∙ h i q; low = w.low; high = w.high }
 
 -- ---- row by row: f is what the pass makes of the table as lent, g of the table as it stands before row q
-
-pub rows_start : (e : List ℕ) (o w : ℕ) (f : ℕ → ℕ) → Swept e e o (0 * w) f
-rows_start e o w f = swept_at (0 * w) (swept_none e o f) (omega arith)
 
 pub rows_more : {e s t : List ℕ} {o : ℕ} {f : ℕ → ℕ} (w q : ℕ) (g : ℕ → ℕ) → Swept e s o (q * w) f → Swept s t (o + q * w) w (λ x. g (q * w + x))
     → ((x : ℕ) → x < w → g (q * w + x) ≡ f (q * w + x)) → Swept e t o ((q + 1) * w) f

@@ -1,4 +1,3 @@
-use mathlib.Core.Path.{refl}
 use Prim.Native.Nat.{suc}
 use native.Mathlib.Omega.{arith}
 use Rattle.octants.proofs.TableLaws.{off_le}
@@ -9,9 +8,6 @@ use Rattle.answers.proofs.clear.Goals as goal
 
 pub loop-j-init : goal.loop-j-init
 loop-j-init c = let p = c.requires in cleared_start _ _ _ p.1 p.0.octants p.2
-
-pub level_at-requires : goal.level_at-requires
-level_at-requires c = let p = c.requires.0 in (p.roots, omega (arith, p.levels, c.loop-j.invariant.few))
 
 pub clear_level-requires : goal.clear_level-requires
 clear_level-requires c =
@@ -25,9 +21,6 @@ pub loop-j-preserved : goal.loop-j-preserved
 loop-j-preserved c =
     let l = c.loop-j in
     cleared_turn _ _ _ l.j c.loop-j-test.true c.level_at.ensures c.clear_level.ensures l.invariant
-
-pub shape_of-s : goal.shape_of-s
-shape_of-s c = c.loop-j.invariant.long
 
 pub returns : goal.returns
 returns c = let l = c.loop-j in cleared_end _ _ _ _ l.j c.loop-j-test.false c.requires.0.octants l.invariant

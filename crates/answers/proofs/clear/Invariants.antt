@@ -1,5 +1,3 @@
-use mathlib.Core.Path.{◌≡◌}
-use Prim.Native.Nat.{◌-◌}
 use Rattle.octree.specs.Parts.{roots_of}
 use Rattle.answers.proofs.Clearing.{Cleared}
 use Rattle.answers.proofs.clear.Given as goal

@@ -1,5 +1,4 @@
-use mathlib.Core.Path.{◌≡◌}
-use Prim.Native.Nat.{◌*◌, ◌-◌, ◌≤◌}
+use Prim.Native.Nat.{◌*◌}
 use Rattle.octree.specs.Parts.{below_of}
 use Rattle.octree.specs.Sweep.{Swept}
 use Rattle.answers.specs.Parts.{cleared_byte}

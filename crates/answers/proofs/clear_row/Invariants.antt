@@ -1,5 +1,5 @@
 use mathlib.Core.Bool.{◌&&◌}
-use Prim.Native.Nat.{◌+◌, ◌-◌, ◌/◌, ◌≤◌}
+use Prim.Native.Nat.{◌+◌, ◌/◌}
 use Rattle.lists.specs.Tests.{bit}
 use Rattle.octree.specs.Sweep.{one}
 use Rattle.octree.specs.Sweep.{Swept}

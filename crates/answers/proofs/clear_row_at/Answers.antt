@@ -2,15 +2,6 @@ use native.Mathlib.Omega.{arith}
 use Rattle.answers.proofs.Clearing.{row_in, row_cleared}
 use Rattle.answers.proofs.clear_row_at.Goals as goal
 
-pub below-p-requires : goal.below-p-requires
-below-p-requires c = let p = c.requires.0 in (p.counts, omega (arith, p.room))
-
-pub nonzero_rem-r : goal.nonzero_rem-r
-nonzero_rem-r c = omega (arith, row_in c.args.v c.args.r c.below-p.ensures c.requires)
-
-pub nonzero_div-r-2 : goal.nonzero_div-r-2
-nonzero_div-r-2 c = omega (arith, row_in c.args.v c.args.r c.below-p.ensures c.requires)
-
 pub slot_of-requires : goal.slot_of-requires
 slot_of-requires c = let h = row_in c.args.v c.args.r c.below-p.ensures c.requires in (omega (arith, h.layer, h.room), omega (arith, h.over, h.room))
 
