@@ -3,10 +3,10 @@ use mathlib.Core.Path.{◌≡◌, refl, ap, sym, ◌∙◌, fun_ext}
 use mathlib.Core.Bool.{Bool, true, false, ◌&&◌, or_assoc}
 use Prim.Native.Nat.{ℕ, zero, suc, ◌+◌, ◌*◌, ◌-◌, ◌/◌, ◌%◌, ◌^◌, ◌≤◌, ◌<◌}
 use native.Mathlib.Omega.{arith}
-use native.Mathlib.Nat.{mul-le-mul, div-lt_iff_lt-mul}
+use native.Mathlib.Nat.{div-lt_iff_lt-mul}
 use lib.Pow.{pow-add, pow_pos}
 use Rattle.lists.specs.Tests.{any}
-use Rattle.space.specs.Space.{ax, ay, az, Pos, pos}
+use Rattle.space.specs.Space.{Pos, pos}
 use Rattle.space.proofs.Space.{on_all}
 use Rattle.octants.specs.Oct.{Tree, In, counts, within, hit, width}
 use Rattle.octants.proofs.Near.{in_within}
@@ -68,20 +68,9 @@ module _ (l : ℕ) (d : Pos) (t : Tree) (o : Octant) where
   unfolding covered_of
   covered_inside h = rw h
 
-  -- the counts that the code works out
-  pub counts_are : {nx ny nz : ℕ} → nx ≡ d ax * 2 ^ (l - o.level) → ny ≡ d ay * 2 ^ (l - o.level) → nz ≡ d az * 2 ^ (l - o.level) → pos nx ny nz ≡ counts l d o.level
-  counts_are {nx} {ny} {nz} x y z = fun_ext (on_all (λ a. pos nx ny nz a ≡ counts l d o.level a) x y z)
-
--- a point stays far below 2 ^ 64
-pub wide_fits : {w : ℕ} (x o : ℕ) → x < 65536 → o ≤ 1 → w ≤ 64 → (x + o) * w ≤ 4194304
-wide_fits {w} x o h g f = let b : x + o ≤ 65536 = omega arith in mul-le-mul b f
-
 -- ---- the octants around a point
 
 module _ (l : ℕ) (d : Pos) (t : Tree) (m x y z i j k : ℕ) where
-  pub corner_out : at_most (pos i j k) (pos x y z) ≡ false → false ≡ leaf_at l d t m (pos x y z) (pos i j k)
-  corner_out h = ap (λ (b : Bool). b && is_leaf l d t m (λ a. pos x y z a - pos i j k a)) (sym h)
-
   pub corner_in : at_most (pos i j k) (pos x y z) ≡ true → is_leaf l d t m (pos (x - i) (y - j) (z - k)) ≡ leaf_at l d t m (pos x y z) (pos i j k)
   corner_in h =
       ap (is_leaf l d t m) (fun_ext (on_all (λ a. pos (x - i) (y - j) (z - k) a ≡ pos x y z a - pos i j k a) refl refl refl))

@@ -9,7 +9,7 @@ ghost use Rattle.octree.specs.Parts.{roots_of, place_of, tree_of, Covers};
 ghost use Rattle.octree_cells.specs.Cells.{at_most, is_leaf, leaf_at, leaf_around, on_grid, finer};
 ghost use Rattle.lookup.specs.Parts.{ancestor_of, descent_of, covered_of};
 
-use octree::{Octant, Roots, along, is_inside, is_split};
+use octree::{Octant, Roots, is_inside, is_split, level_at};
 
 // The leaf that covers an octant; split, so that several leaves cover it; or out of range.
 #[derive(Clone, Copy)]
@@ -78,10 +78,7 @@ pub fn covering_leaf(s: &[u8], d: Roots, o: Octant) -> Covered
     ensures { result ≡ covered_of d.levels (roots_of d) (tree_of d s.now) o }
 {
     let k = d.levels - o.level;
-    let nx = along(d.nx, k);
-    let ny = along(d.ny, k);
-    let nz = along(d.nz, k);
-    if !is_inside(nx, ny, nz, o.x, o.y, o.z) {
+    if !is_inside(level_at(d, k), o.x, o.y, o.z) {
         return Covered::Outside;
     }
     descend(s, d, o, k)
@@ -92,8 +89,7 @@ pub fn is_leaf(s: &[u8], d: Roots, o: Octant) -> bool
     requires { Covers d (length s.now) × (o.level ≤ d.levels) }
     ensures { result ≡ is_leaf d.levels (roots_of d) (tree_of d s.now) o.level (place_of o) }
 {
-    let c = covering_leaf(s, d, o);
-    match c {
+    match covering_leaf(s, d, o) {
         Covered::Leaf(a) => a.level == o.level,
         Covered::Split => false,
         Covered::Outside => false,
@@ -104,13 +100,7 @@ pub fn is_leaf(s: &[u8], d: Roots, o: Octant) -> bool
 fn has_corner(o: Octant, i: usize, j: usize, k: usize) -> bool
     ensures { result ≡ at_most (pos i j k) (place_of o) }
 {
-    if o.x < i {
-        return false;
-    }
-    if o.y < j {
-        return false;
-    }
-    k <= o.z
+    i <= o.x && j <= o.y && k <= o.z
 }
 
 // Whether the octant whose corner (i, j, k) stands at the level's place o is a leaf.
@@ -135,12 +125,10 @@ fn leaf_around(s: &[u8], d: Roots, o: Octant) -> bool
     requires { Covers d (length s.now) × (o.level ≤ d.levels) }
     ensures { result ≡ leaf_around d.levels (roots_of d) (tree_of d s.now) o.level (place_of o) }
 {
-    let mut n = 0;
-    while n < 8 {
+    for n in 0..8 {
         if leaf_at(s, d, o, n % 2, n / 2 % 2, n / 4) {
             return true;
         }
-        n += 1;
     }
     false
 }
@@ -150,13 +138,7 @@ fn on_grid(w: usize, x: usize, y: usize, z: usize) -> bool
     requires { 1 ≤ w }
     ensures { result ≡ on_grid w (pos x y z) }
 {
-    if x % w != 0 {
-        return false;
-    }
-    if y % w != 0 {
-        return false;
-    }
-    z % w == 0
+    x % w == 0 && y % w == 0 && z % w == 0
 }
 
 // Whether a leaf of the level below m puts a vertex at (x, y, z), in vertex coordinates.

@@ -46,10 +46,6 @@ module _ (d : Pos) (k : ℕ) {v : Level} (e : v ≡ level_at d k) where
   stacked {s} c h f =
       record { counts = subst (Counts most_along) (sym level_counts) (depth_counts k c h); room = omega (arith, off_suc d (suc k), below_eq (λ o n. o + size n)) }
 
--- a pass leaves the length of the table
-pub stacked_again : {s t : List ℕ} {v : Level} → Stacked s v → length t ≡ length s → Stacked t v
-stacked_again p e = record { counts = p.counts; room = omega (arith, p.room) }
-
 -- what `level_at` works out
 pub level_is : (nx ny nz k w : ℕ) → w ≡ 1 * 2 ^ k
     → record { start = nx * ny * nz * ((w * w * w - 1) / 7); nx = nx * w; ny = ny * w; nz = nz * w } ≡ level_at (pos nx ny nz) k

@@ -1,16 +1,8 @@
-use Rattle.std.proofs.Common.{ap, ◌∙◌, arith}
+use Rattle.std.proofs.Common.{◌∙◌, arith}
 use Rattle.lists.proofs.Tests.{failed, passed}
 use Rattle.octree.specs.Parts.{roots_of, tree_of}
-use Rattle.octree.specs.declared.Octant.{Octant}
 use Rattle.lookup.proofs.Descent.{over_read, descent_leaf, descent_split, descent_down}
 use Rattle.lookup.proofs.+descend.Goals as goal
-
-pub ancestor-a-requires : goal.ancestor-a-requires
-ancestor-a-requires t c = omega (arith, c.requires.0.levels, c.requires.1)
-
-pub is_split-requires : goal.is_split-requires
-is_split-requires t c =
-    (c.requires.0, omega (arith, c.requires.1, ap (λ (o : Octant). o.level) c.ancestor-a.ensures))
 
 pub returns-then-not-is_split : goal.returns-then-not-is_split
 returns-then-not-is_split t c =
@@ -23,11 +15,6 @@ returns-then-k-eq0 t c =
     let a = c.args in
     descent_split (tree_of a.d a.s.now) a.o a.k c.if-k-eq0.true
     (passed (over_read a.d.levels (roots_of a.d) (tree_of a.d a.s.now) a.o a.k c.requires.1 c.requires.2 c.ancestor-a.ensures c.is_split.ensures) c.if-not-is_split.false)
-
-pub descend-requires : goal.descend-requires
-descend-requires t c =
-    let p = c.requires in
-    (omega (arith, c.decreases, c.if-k-eq0.false), (p.0, omega (arith, p.1), p.2))
 
 pub returns : goal.returns
 returns t c =

@@ -2,28 +2,16 @@ use native.Mathlib.Omega.{arith}
 use Rattle.lists.proofs.Tests.{failed, passed}
 use Rattle.space.specs.Space.{pos}
 use Rattle.octree.specs.Parts.{roots_of, tree_of}
-use Rattle.lookup.proofs.Descent.{finest_none, off_grid, on_grid_lem, width_some}
+use Rattle.lookup.proofs.Descent.{finest_none, off_grid, on_grid_lem}
 use Rattle.lookup.proofs.has_finer_vertex.Goals as goal
 
 pub returns-then-m-eq0 : goal.returns-then-m-eq0
 returns-then-m-eq0 c = let a = c.args in finest_none a.d.levels (roots_of a.d) (tree_of a.d a.s.now) (pos a.x a.y a.z) a.m c.if-m-eq0.true
 
-pub on_grid-requires : goal.on_grid-requires
-on_grid-requires c = omega (arith, width_some _ c.width-w.ensures.0)
-
 pub returns-then-not-on_grid : goal.returns-then-not-on_grid
 returns-then-not-on_grid c =
     let a = c.args in
     off_grid a.d.levels (roots_of a.d) (tree_of a.d a.s.now) a.x a.y a.z a.m _ (omega (arith, c.if-m-eq0.false)) c.width-w.ensures.0 (failed c.on_grid.ensures c.if-not-on_grid.true)
-
-pub nonzero_div-o : goal.nonzero_div-o
-nonzero_div-o c = omega (arith, width_some _ c.width-w.ensures.0)
-
-pub nonzero_div-o-2 : goal.nonzero_div-o-2
-nonzero_div-o-2 c = omega (arith, width_some _ c.width-w.ensures.0)
-
-pub nonzero_div-o-3 : goal.nonzero_div-o-3
-nonzero_div-o-3 c = omega (arith, width_some _ c.width-w.ensures.0)
 
 pub returns : goal.returns
 returns c =

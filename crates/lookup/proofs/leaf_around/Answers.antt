@@ -22,16 +22,13 @@ corners s d o n = leaf s d o (pos (n % 2) (n / 2 % 2) (n / 4))
 
 pub loop-n-init : goal.loop-n-init
 unfolding any
-loop-n-init c = (omega arith, refl)
-
-pub leaf_at-requires : goal.leaf_at-requires
-leaf_at-requires c = c.requires
+loop-n-init c = refl
 
 pub returns-then-leaf_at : goal.returns-then-leaf_at
 returns-then-leaf_at c = any_found (corners c.args.s.now c.args.d c.args.o) 8 c.loop-n.n (omega (arith, c.loop-n-test.true)) (sym c.leaf_at.ensures ∙ c.if-leaf_at.true) ∙ eight (leaf c.args.s.now c.args.d c.args.o)
 
 pub loop-n-preserved : goal.loop-n-preserved
-loop-n-preserved c = (omega arith, any_more (corners c.args.s.now c.args.d c.args.o) _ c.loop-n.invariant.1 (sym c.leaf_at.ensures ∙ c.if-leaf_at.false))
+loop-n-preserved c = any_more (corners c.args.s.now c.args.d c.args.o) _ c.loop-n.invariant (sym c.leaf_at.ensures ∙ c.if-leaf_at.false)
 
 pub returns : goal.returns
-returns c = any_none (corners c.args.s.now c.args.d c.args.o) 8 _ c.loop-n.invariant.0 c.loop-n-test.false c.loop-n.invariant.1 ∙ eight (leaf c.args.s.now c.args.d c.args.o)
+returns c = any_none (corners c.args.s.now c.args.d c.args.o) 8 _ c.loop-n.auto.n-end c.loop-n-test.false c.loop-n.invariant ∙ eight (leaf c.args.s.now c.args.d c.args.o)

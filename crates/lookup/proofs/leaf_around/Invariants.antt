@@ -1,6 +1,6 @@
 use mathlib.Core.Path.{◌≡◌}
 use mathlib.Core.Bool.{false}
-use Prim.Native.Nat.{◌-◌, ◌/◌, ◌%◌, ◌≤◌}
+use Prim.Native.Nat.{◌/◌, ◌%◌}
 use Rattle.lists.specs.Tests.{any}
 use Rattle.space.specs.Space.{pos}
 use Rattle.octree.specs.Parts.{roots_of, place_of, tree_of}
@@ -8,7 +8,4 @@ use Rattle.octree_cells.specs.Cells.{leaf_at}
 use Rattle.lookup.proofs.leaf_around.Given as goal
 
 abbrev pub invariant-loop-n : goal.invariant-loop-n
-invariant-loop-n l = (l.n ≤ 8) × (any l.n (λ n. leaf_at l.d.levels (roots_of l.d) (tree_of l.d l.s) l.o.level (place_of l.o) (pos (n % 2) (n / 2 % 2) (n / 4))) ≡ false)
-
-abbrev pub decreases-loop-n : goal.decreases-loop-n
-decreases-loop-n l = 8 - l.n
+invariant-loop-n l = any l.n (λ n. leaf_at l.d.levels (roots_of l.d) (tree_of l.d l.s) l.o.level (place_of l.o) (pos (n % 2) (n / 2 % 2) (n / 4))) ≡ false
