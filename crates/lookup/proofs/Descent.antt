@@ -103,6 +103,3 @@ module _ (l : ℕ) (d : Pos) (t : Tree) (x y z m w : ℕ) (p : 1 ≤ m) (e : w �
   on_grid_lem {r} h c = at_width r
       (c ∙ ap (leaf_around l d t (m - 1)) (fun_ext (on_all (λ a. pos (x / w) (y / w) (z / w) a ≡ pos x y z a / w) refl refl refl))
       ∙ ap (λ (b : Bool). b && leaf_around l d t (m - 1) (λ a. pos x y z a / w)) (sym h))
-
-pub width_some : {w : ℕ} (m : ℕ) → w ≡ width m → 1 ≤ w
-width_some m e = omega (arith, pow_pos m)
