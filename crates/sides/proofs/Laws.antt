@@ -13,27 +13,23 @@ use Rattle.octree_cells.specs.Leaf.{turn_at, central}
 use Rattle.octree.specs.declared.Level.{Level}
 use Rattle.octree.specs.Parts.{counts_of, in_level}
 use Rattle.sides.specs.declared.Around.{Around}
+use Rattle.sides.specs.declared.Axis.{Axis as Along}
+use Rattle.sides.specs.declared.Axis.TheVariants.{X, Y, Z}
 use Rattle.sides.specs.declared.Beside.TheVariants.{Split, Equal, Given, Coarser, Border}
 use Rattle.sides.specs.Parts.{axis_of, split_in, either_in, equal_in, beside_in}
 
-module _ (s : List ℕ) (k : Level) (n u v w : ℕ) where
-  abbrev there : Pos → Bool
-  there p = hit (counts_of k) (in_level s k) p
-
-  pub in_x : n ≡ 0 → there (pos u v w) ≡ split_in s k (axis_of n) u v w
-  unfolding split_in
-  in_x h = rw h
-
-  pub in_y : n ≡ 1 → there (pos w u v) ≡ split_in s k (axis_of n) u v w
-  unfolding split_in
-  in_y h = rw h
-
-pub in_z : (s : List ℕ) (k : Level) (n u v w : ℕ) → (n ≡ 0 → ⊥) → (n ≡ 1 → ⊥)
-    → hit (counts_of k) (in_level s k) (pos v w u) ≡ split_in s k (axis_of n) u v w
+-- by the axis
+pub in_x : (s : List ℕ) (k : Level) {a : Along} (u v w : ℕ) → a ≡ X → hit (counts_of k) (in_level s k) (pos u v w) ≡ split_in s k (axis_of a) u v w
 unfolding split_in
-in_z s k zero u v w h g = absurd (h refl)
-in_z s k (suc zero) u v w h g = absurd (g refl)
-in_z s k (suc (suc n)) u v w h g = refl
+in_x s k u v w h = rw h
+
+pub in_y : (s : List ℕ) (k : Level) {a : Along} (u v w : ℕ) → a ≡ Y → hit (counts_of k) (in_level s k) (pos w u v) ≡ split_in s k (axis_of a) u v w
+unfolding split_in
+in_y s k u v w h = rw h
+
+pub in_z : (s : List ℕ) (k : Level) {a : Along} (u v w : ℕ) → a ≡ Z → hit (counts_of k) (in_level s k) (pos v w u) ≡ split_in s k (axis_of a) u v w
+unfolding split_in
+in_z s k u v w h = rw h
 
 module _ (s : List ℕ) (k : Level) (a : Axis) (u v w : ℕ) where
   pub either_first : split_in s k a u v w ≡ true → true ≡ either_in s k a u v w
@@ -43,18 +39,6 @@ module _ (s : List ℕ) (k : Level) (a : Axis) (u v w : ℕ) where
   pub either_second : split_in s k a u v w ≡ false → split_in s k a (u + 1) v w ≡ either_in s k a u v w
   unfolding either_in
   either_second h = rw h
-
-pub step_high : (u : ℕ) (b : Bool) → b ≡ true → u + 1 ≡ stepped b u
-step_high u b h = rw h
-
-pub step_low : (u r : ℕ) (b : Bool) → b ≡ false → r ≡ u - 1 → r ≡ stepped b u
-step_low u r b h e = rw h e
-
-pub reach_high : (n u : ℕ) (b : Bool) → b ≡ true → ltb (u + 1) n ≡ reaches n b u
-reach_high n u b h = rw h
-
-pub reach_low : (n u : ℕ) (b : Bool) → b ≡ false → ltb 0 u ≡ reaches n b u
-reach_low n u b h = rw h
 
 -- the parities
 odd_0 : (v : ℕ) → v % 2 ≡ 1 → (central 0 v ≡ true) × (central 1 v ≡ false)

@@ -18,6 +18,7 @@ use Rattle.octree.specs.declared.Octant.{Octant}
 use Rattle.octree.specs.declared.Level.{Level}
 use Rattle.octree.proofs.Levels.{level_end}
 use Rattle.sides.specs.declared.Around.{Around}
+use Rattle.sides.specs.declared.Axis.{Axis as Along}
 use Rattle.sides.specs.declared.Sides.{Sides}
 use Rattle.sides.specs.declared.Beside.{Beside}
 use Rattle.sides.specs.declared.Beside.TheVariants.{Equal}
@@ -56,7 +57,7 @@ module _ (s : List ℕ) (d : Roots) (h : Taken s d) where
     pub leaf_small : (a : Axis) → place_of o a < most_along
     leaf_small = in_small (roots_of d) d.levels o.level (place_of o) h.covers.roots h.covers.levels leaf.inside
 
-    pub near : {n k : ℕ} (a b c : Axis) → Near (record { axis = k; n = n; u = place_of o a; v = place_of o b; w = place_of o c })
+    pub near : {n : ℕ} {k : Along} (a b c : Axis) → Near (record { axis = k; n = n; u = place_of o a; v = place_of o b; w = place_of o c })
     near a b c = record { u_few = omega (arith, leaf_small a); v_few = omega (arith, leaf_small b); w_few = omega (arith, leaf_small c) }
 
     pub around_held : {l : Around} → l ≡ around_of (roots_of d) d.levels o.level → HeldAround s l

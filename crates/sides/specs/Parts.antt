@@ -10,6 +10,8 @@ use Rattle.octree.specs.declared.Octant.{Octant}
 use Rattle.octree.specs.declared.Level.{Level}
 use Rattle.octree_cells.specs.Cells.{Cell, Face, face, face_centre, middle, turns_to, finer, Side, split, equal, coarser, border, side, reaches, stepped, leaf_cells, cells}
 use Rattle.octree_cells.specs.Leaf.{IsLeaf, turn_at}
+use Rattle.sides.specs.declared.Axis.{Axis as Along}
+use Rattle.sides.specs.declared.Axis.TheVariants.{X, Y, Z}
 use Rattle.sides.specs.declared.Beside.{Beside}
 use Rattle.sides.specs.declared.Beside.TheVariants.{Split, Equal, Given, Coarser, Border}
 use Rattle.sides.specs.declared.Sides.{Sides}
@@ -68,11 +70,10 @@ sides_of s d o = sides_at d.levels (roots_of d) (tree_of d s) o.level (place_of 
 
 -- ---- as it is read
 
--- the axis by its number
-abbrev pub axis_of : ℕ → Axis
-axis_of zero = ax
-axis_of (suc zero) = ay
-axis_of (suc (suc n)) = az
+abbrev pub axis_of : Along → Axis
+axis_of X = ax
+axis_of Y = ay
+axis_of Z = az
 
 -- the octant at u along axis a, v along the next, w along the last is there and split; this one or the next
 unfoldable pub split_in : List ℕ → Level → Axis → (u v w : ℕ) → Bool

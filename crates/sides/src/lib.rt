@@ -4,7 +4,6 @@
 
 ghost use Rattle.std.specs.Prelude.{◌≡◌, ◌^◌, ◌≤◌, ◌<◌, length};
 ghost use Rattle.space.specs.Levels.{most_levels, most_roots, Counts};
-ghost use Rattle.lists.specs.Tests.{bit};
 ghost use Rattle.octree.specs.Parts.{roots_of, Held};
 ghost use Rattle.octree_cells.specs.Cells.{reaches, stepped};
 ghost use Rattle.octree_cells.specs.Leaf.{turn_at};
@@ -29,7 +28,7 @@ pub enum Beside {
     Equal(Edges),
     // one on the negative side, which gives the cells between the two
     Given,
-    // with the corner of the face that is the centre of the coarse one
+    // with the corner of the face that is the centre of the coarse one: a number, since the face is turned so many times
     Coarser(u64),
     Border,
 }
@@ -45,6 +44,13 @@ pub struct Sides {
     pub z1: Beside,
 }
 
+#[derive(Clone, Copy)]
+enum Axis {
+    X,
+    Y,
+    Z,
+}
+
 // What is read around a leaf: its level and the one above. A level without bytes has no octants.
 #[derive(Clone, Copy)]
 struct Around {
@@ -56,7 +62,7 @@ struct Around {
 // A leaf's place from an axis on: u along it, where its level has n octants, v along the next axis, w along the one after it.
 #[derive(Clone, Copy)]
 struct Spot {
-    axis: u32,
+    axis: Axis,
     n: usize,
     u: usize,
     v: usize,
@@ -64,21 +70,19 @@ struct Spot {
 }
 
 // Whether the octant at u along an axis, v along the next and w along the one after it is there and split.
-fn split_in(split: &[u8], level: Level, axis: u32, u: usize, v: usize, w: usize) -> bool
+fn split_in(split: &[u8], level: Level, axis: Axis, u: usize, v: usize, w: usize) -> bool
     requires { Held split.now level }
     ensures { result ≡ split_in split.now level (axis_of axis) u v w }
 {
-    if axis == 0 {
-        return hits(split, level.start, level.nx, level.ny, level.nz, u, v, w);
+    match axis {
+        Axis::X => hits(split, level, u, v, w),
+        Axis::Y => hits(split, level, w, u, v),
+        Axis::Z => hits(split, level, v, w, u),
     }
-    if axis == 1 {
-        return hits(split, level.start, level.nx, level.ny, level.nz, w, u, v);
-    }
-    hits(split, level.start, level.nx, level.ny, level.nz, v, w, u)
 }
 
 // Whether this octant or the next one along the axis is split.
-fn either_in(split: &[u8], level: Level, axis: u32, u: usize, v: usize, w: usize) -> bool
+fn either_in(split: &[u8], level: Level, axis: Axis, u: usize, v: usize, w: usize) -> bool
     requires { Held split.now level × (u < 2 ^ 32) }
     ensures { result ≡ either_in split.now level (axis_of axis) u v w }
 {
@@ -93,13 +97,7 @@ fn step_to(u: usize, high: bool) -> usize
     requires { u < 2 ^ 32 }
     ensures { result ≡ stepped high u }
 {
-    if high {
-        return u + 1;
-    }
-    if u == 0 {
-        return 0;
-    }
-    u - 1
+    if high { u + 1 } else { u.saturating_sub(1) }
 }
 
 // Whether there is an octant one step along an axis with n of them.
@@ -107,10 +105,7 @@ fn reach(n: usize, high: bool, u: usize) -> bool
     requires { u < 2 ^ 32 }
     ensures { result ≡ reaches n high u }
 {
-    if high {
-        return u + 1 < n;
-    }
-    0 < u
+    if high { u + 1 < n } else { 0 < u }
 }
 
 // The corner of a face that is the centre of the coarser face beside it.
@@ -186,11 +181,7 @@ fn level_of(d: Roots, m: usize) -> Level
             nz: 0,
         };
     }
-    let levels = d.levels;
-    if levels < m {
-        return level_at(d, 0);
-    }
-    level_at(d, levels - m)
+    level_at(d, d.levels.saturating_sub(m))
 }
 
 // What is read around a leaf of level m.
@@ -215,21 +206,21 @@ pub fn sides_at(split: &[u8], d: Roots, o: Octant) -> Sides
     let l = around_of(d, o.level);
     let w = along(1, d.levels - o.level);
     let x = Spot {
-        axis: 0,
+        axis: Axis::X,
         n: d.nx * w,
         u: o.x,
         v: o.y,
         w: o.z,
     };
     let y = Spot {
-        axis: 1,
+        axis: Axis::Y,
         n: d.ny * w,
         u: o.y,
         v: o.z,
         w: o.x,
     };
     let z = Spot {
-        axis: 2,
+        axis: Axis::Z,
         n: d.nz * w,
         u: o.z,
         v: o.x,
@@ -251,22 +242,15 @@ pub fn sides_at(split: &[u8], d: Roots, o: Octant) -> Sides
     }
 }
 
-fn one(e: bool) -> usize
-    ensures { (result ≡ bit e) × (result ≤ 1) }
-{
-    if e {
-        return 1;
-    }
-    0
-}
-
 // How many cells a leaf gives at a face.
 fn given_at(side: Beside) -> usize
     ensures { (result ≡ given_at side) × (result ≤ 8) }
 {
     match side {
         Beside::Split => 8,
-        Beside::Equal(e) => 4 + one(e.e0) + one(e.e1) + one(e.e2) + one(e.e3),
+        Beside::Equal(e) => {
+            4 + usize::from(e.e0) + usize::from(e.e1) + usize::from(e.e2) + usize::from(e.e3)
+        }
         Beside::Given => 0,
         Beside::Coarser(_) => 2,
         Beside::Border => 2,
@@ -279,11 +263,7 @@ pub fn count_leaf(split: &[u8], d: Roots, o: Octant) -> usize
     ensures { result ≡ length (cells_at split.now d o) }
 {
     let f = sides_at(split, d, o);
-    let x0 = f.x0;
-    let x1 = f.x1;
-    let y0 = f.y0;
-    let y1 = f.y1;
-    let z0 = f.z0;
-    let z1 = f.z1;
-    given_at(x0) + given_at(x1) + (given_at(y0) + given_at(y1)) + (given_at(z0) + given_at(z1))
+    given_at(f.x0) + given_at(f.x1)
+        + (given_at(f.y0) + given_at(f.y1))
+        + (given_at(f.z0) + given_at(f.z1))
 }

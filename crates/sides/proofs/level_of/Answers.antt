@@ -1,12 +1,9 @@
-use native.Mathlib.Omega.{arith}
+use mathlib.Core.Path.{refl}
 use Rattle.sides.proofs.Levels.{level_none, level_some}
 use Rattle.sides.proofs.level_of.Goals as goal
 
 pub returns-then-m-eq0 : goal.returns-then-m-eq0
 returns-then-m-eq0 c = level_none _ _ _ c.if-m-eq0.true
 
-pub returns-then-levels-m : goal.returns-then-levels-m
-returns-then-levels-m c = level_some _ _ _ _ c.if-m-eq0.false c.level_at.ensures (omega arith)
-
 pub returns : goal.returns
-returns c = level_some _ _ _ _ c.if-m-eq0.false c.level_at-2.ensures (omega arith)
+returns c = level_some _ _ _ _ c.if-m-eq0.false c.level_at.ensures c.saturating_sub.ensures

@@ -2,11 +2,11 @@ use mathlib.Core.Path.{◌∙◌}
 use Rattle.sides.proofs.Laws.{in_x, in_y, in_z}
 use Rattle.sides.proofs.split_in.Goals as goal
 
-pub returns-then-axis-eq0 : goal.returns-then-axis-eq0
-returns-then-axis-eq0 c = c.hits.ensures ∙ in_x _ _ _ _ _ _ c.if-axis-eq0.true
+pub returns-in-X : goal.returns-in-X
+returns-in-X c = c.hits.ensures ∙ in_x _ _ _ _ _ c.in-X.is
 
-pub returns-then-axis-eq1 : goal.returns-then-axis-eq1
-returns-then-axis-eq1 c = c.hits-then-axis-eq1.ensures ∙ in_y _ _ _ _ _ _ c.if-axis-eq1.true
+pub returns-in-Y : goal.returns-in-Y
+returns-in-Y c = c.hits-in-Y.ensures ∙ in_y _ _ _ _ _ c.in-Y.is
 
-pub returns : goal.returns
-returns c = c.hits-2.ensures ∙ in_z _ _ _ _ _ _ c.if-axis-eq0.false c.if-axis-eq1.false
+pub returns-in-Z : goal.returns-in-Z
+returns-in-Z c = c.hits-in-Z.ensures ∙ in_z _ _ _ _ _ c.in-Z.is
