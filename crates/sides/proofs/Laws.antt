@@ -1,15 +1,12 @@
 -- Laws of reading around a leaf. Assumes nothing.
-use mathlib.Core.Path.{◌≡◌, refl}
+use mathlib.Core.Path.{◌≡◌}
 use mathlib.Core.Bool.{Bool, true, false}
 use mathlib.Core.List.{List}
-use Prim.Native.Nat.{ℕ, zero, suc, ◌+◌, ◌-◌, ◌/◌, ◌%◌}
-use native.Mathlib.Omega.{arith}
-use lib.Dec.{ltb}
-use borrow.Author.Tests.{eq-eqb, ne_eqb}
-use Rattle.space.specs.Space.{Axis, Pos, pos}
+use Prim.Native.Nat.{ℕ, ◌+◌, ◌/◌}
+use Rattle.space.specs.Space.{Axis, pos}
 use Rattle.octants.specs.Oct.{hit}
 use Rattle.octree_cells.specs.Cells.{reaches, stepped}
-use Rattle.octree_cells.specs.Leaf.{turn_at, central}
+use Rattle.octree_cells.specs.Leaf.{turn_at}
 use Rattle.octree.specs.declared.Level.{Level}
 use Rattle.octree.specs.Parts.{counts_of, in_level}
 use Rattle.sides.specs.declared.Around.{Around}
@@ -39,28 +36,6 @@ module _ (s : List ℕ) (k : Level) (a : Axis) (u v w : ℕ) where
   pub either_second : split_in s k a u v w ≡ false → split_in s k a (u + 1) v w ≡ either_in s k a u v w
   unfolding either_in
   either_second h = rw h
-
--- the parities
-odd_0 : (v : ℕ) → v % 2 ≡ 1 → (central 0 v ≡ true) × (central 1 v ≡ false)
-odd_0 v h = (eq-eqb (v % 2 + 0) 1 (omega arith), ne_eqb (v % 2 + 1) 1 (λ e. omega arith))
-
-even_0 : (v : ℕ) → (v % 2 ≡ 1 → ⊥) → (central 0 v ≡ false) × (central 1 v ≡ true)
-even_0 v h =
-    let e : v % 2 ≡ 0 = omega arith in
-    (ne_eqb (v % 2 + 0) 1 (λ k. omega arith), eq-eqb (v % 2 + 1) 1 (omega arith))
-
-module _ (v w : ℕ) where
-  pub turn_0 : v % 2 ≡ 1 → w % 2 ≡ 1 → 0 ≡ turn_at v w
-  turn_0 p q = rw ((odd_0 v p).0, (odd_0 w q).0)
-
-  pub turn_3 : v % 2 ≡ 1 → (w % 2 ≡ 1 → ⊥) → 3 ≡ turn_at v w
-  turn_3 p q = rw ((odd_0 v p).0, (even_0 w q).0, (odd_0 v p).1, (even_0 w q).1)
-
-  pub turn_1 : (v % 2 ≡ 1 → ⊥) → w % 2 ≡ 1 → 1 ≡ turn_at v w
-  turn_1 p q = rw ((even_0 v p).0, (odd_0 w q).0, (even_0 v p).1)
-
-  pub turn_2 : (v % 2 ≡ 1 → ⊥) → (w % 2 ≡ 1 → ⊥) → 2 ≡ turn_at v w
-  turn_2 p q = rw ((even_0 v p).0, (even_0 w q).0, (even_0 v p).1, (even_0 w q).1)
 
 -- a neighbour of equal level
 pub equal_low : (s : List ℕ) (k : Level) (a : Axis) (u v w : ℕ) (high : Bool) → high ≡ false → Given ≡ equal_in s k a u v w high

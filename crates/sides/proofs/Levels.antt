@@ -9,7 +9,6 @@ use lib.ListN.{length}
 use lib.Pow.{pow_mono}
 use Rattle.space.specs.Space.{Axis, ax, ay, az, Pos, pos}
 use Rattle.space.specs.Levels.{most_levels, most_roots, most_along, Counts}
-use Rattle.lists.specs.Tests.{bit}
 use Rattle.octants.specs.Oct.{In}
 use Rattle.octants.proofs.TableLaws.{off_le}
 use Rattle.octree.specs.Parts.{roots_of, place_of, level_at, Held}
@@ -21,8 +20,6 @@ use Rattle.sides.specs.declared.Around.{Around}
 use Rattle.sides.specs.declared.Axis.{Axis as Along}
 use Rattle.sides.specs.declared.Sides.{Sides}
 use Rattle.sides.specs.declared.Beside.{Beside}
-use Rattle.sides.specs.declared.Beside.TheVariants.{Equal}
-use Rattle.sides.specs.declared.Edges.{Edges}
 use Rattle.sides.specs.Parts.{Taken, LeafIn, cells_at, sides_of, facing, level_of, around_of, HeldAround, Near, given_at, given_by}
 use Rattle.sides.proofs.Ties.{sides_read, leaf_count}
 
@@ -86,7 +83,3 @@ module _ (s : List ℕ) (d : Roots) (h : Taken s d) where
         → a + b + (c + p) + (e + g) ≡ length (cells_at s d o)
     unfolding given_by
     count_link k q r t u v w = rw (q, r, t, u, v, w) (ap given_by k ∙ sym (leaf_count (roots_of d) d.levels s h.graded o.level (place_of o) leaf))
-
-pub given_equal : (side : Beside) (e : Edges) (a b c d : ℕ) → side ≡ Equal e → a ≡ bit e.e0 → b ≡ bit e.e1 → c ≡ bit e.e2 → d ≡ bit e.e3
-    → 4 + a + b + c + d ≡ given_at side
-given_equal side e a b c d h p q r u = rw (h, p, q, r, u) refl

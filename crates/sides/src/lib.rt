@@ -263,7 +263,8 @@ pub fn count_leaf(split: &[u8], d: Roots, o: Octant) -> usize
     ensures { result ≡ length (cells_at split.now d o) }
 {
     let f = sides_at(split, d, o);
-    given_at(f.x0) + given_at(f.x1)
+    given_at(f.x0)
+        + given_at(f.x1)
         + (given_at(f.y0) + given_at(f.y1))
         + (given_at(f.z0) + given_at(f.z1))
 }

@@ -1,4 +1,3 @@
-use mathlib.Core.Path.{refl}
 use Rattle.sides.proofs.Levels.{level_none, level_some}
 use Rattle.sides.proofs.level_of.Goals as goal
 
