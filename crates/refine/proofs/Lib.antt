@@ -1,5 +1,5 @@
 -- Laws of the parts, the ways out of the step, and what it means.
-pub mod Copying
+pub mod Summing
 pub mod Tables
 pub mod WaysOut
 pub mod Theorems

@@ -8,6 +8,7 @@ use native.Mathlib.Omega.{arith}
 use lib.Dec.{ltb}
 use lib.Ieee.{Float}
 use lib.ListN.{length, drop}
+use Rattle.std.specs.Prelude.{Result, Ok, Err}
 use Rattle.refusals.specs.Rows.{first, InTurn, proper, rising, caused, lower}
 use Rattle.refusals.specs.Causes.{each_rows, answer_rows, room_rows}
 use Rattle.lists.specs.Tables.{front, on, Determined}
@@ -31,15 +32,15 @@ use Rattle.octants.proofs.StaysNear.{least_near, near_border}
 use Rattle.octants.specs.Rounds.{Rounds}
 use Rattle.octants.proofs.Rounds.{rounds_refined, rounds_table}
 use Rattle.refine.specs.Step.{crossing_rows, refine_rows, number_of, values_of, split_of, refused_with, answer_for, refined_of, split_after, RefineDone}
-use Rattle.refine.specs.declared.Refined.{Refined}
-use Rattle.refine.specs.declared.Refined.TheVariants.{Done, Refused, Short}
+use Rattle.refine.specs.declared.RefineError.{RefineError}
+use Rattle.refine.specs.declared.RefineError.TheVariants.{Refused, Short}
 
 answer_number : (p : Plan) (C o : List ℕ) → number_of (answer_for p C o) ≡ first (crossing_rows p.octants C ++ room_rows (length o) p.octants)
 unfolding answer_for first room_rows
 answer_number p C o =
     number_rows number_of refused_with _ (crossing_rows p.octants C) (room_rows (length o) p.octants) (unfold proper in unfold crossing_rows in unfold each_rows in unfold answer_rows in refl) (λ k. refl) (last (ltb (length o) p.octants))
   where
-    last : (t : Bool) → number_of (cond t (Short p.octants) (Done (total (split_of p C)))) ≡ cond t 9 0
+    last : (t : Bool) → number_of (cond t (Err (Short p.octants)) (Ok (total (split_of p C)))) ≡ cond t 9 0
     last true = refl
     last false = refl
 
@@ -56,7 +57,7 @@ module _ (b : Bounds) (c : Float) (levels : ℕ) (C o : List ℕ) where
   number_is = go (plan_of b c levels) (refusals.number_is b c levels)
     where
       go : (a : Planned) → plan.number_of a ≡ first (plan_rows b c levels)
-          → number_of (on_plan a Refused (λ p. answer_for p C o)) ≡ first (plan_rows b c levels ++ on_plan a (λ why. []) (λ p. crossing_rows p.octants C ++ room_rows (length o) p.octants))
+          → number_of (on_plan a (λ why. Err (Refused why)) (λ p. answer_for p C o)) ≡ first (plan_rows b c levels ++ on_plan a (λ why. []) (λ p. crossing_rows p.octants C ++ room_rows (length o) p.octants))
       go (planned.Ready p) e = answer_number p C o ∙ sym (goes_on (plan_rows b c levels) (crossing_rows p.octants C ++ room_rows (length o) p.octants) (unfold proper in unfold plan_rows in refl) e refl)
       go (planned.Refused why) e = e ∙ ap first (sym (append-nil (plan_rows b c levels)))
 
@@ -74,7 +75,7 @@ module _ (b : Bounds) (c : Float) (levels : ℕ) (C o : List ℕ) where
       rise (planned.Refused why) = unfold rising in unfold plan_rows in refl
 
   -- the contract allows one outcome
-  pub refine_one : Determined (λ (z : Refined × List ℕ). RefineDone b c levels C o z.0 z.1)
+  pub refine_one : Determined (λ (z : Result ℕ RefineError × List ℕ). RefineDone b c levels C o z.0 z.1)
   refine_one = determined (λ z a i. (a.answer i, a.split i))
 
   -- ---- on an answer
@@ -100,7 +101,7 @@ module _ (b : Bounds) (c : Float) (levels : ℕ) (C o : List ℕ) where
         (table_least d l C))
 
   -- demand 3 from the contract: where the number is 0 there is a plan, and the split table at exit is the least refinement of the crossing table
-  pub refine_least : {r : Refined} {o' : List ℕ} → RefineDone b c levels C o r o' → number_of r ≡ 0
+  pub refine_least : {r : Result ℕ RefineError} {o' : List ℕ} → RefineDone b c levels C o r o' → number_of r ≡ 0
       → (p : Plan) × (plan_of b c levels ≡ planned.Ready p) × LeastRefinement p.levels (dims_of p) (read (dims_of p) p.levels C) (read (dims_of p) p.levels o')
   unfolding refined_of
   refine_least {r} {o'} h z = go (plan_of b c levels) refl
@@ -117,7 +118,7 @@ module _ (b : Bounds) (c : Float) (levels : ℕ) (C o : List ℕ) where
 
   -- the balance stays near: every octant that is split at exit meets a crossed octant of its own level whose ancestors are all crossed; so
   -- where every crossed root keeps two roots away from the border, no root at the border is split
-  pub refine_near : {r : Refined} {o' : List ℕ} → RefineDone b c levels C o r o' → number_of r ≡ 0
+  pub refine_near : {r : Result ℕ RefineError} {o' : List ℕ} → RefineDone b c levels C o r o' → number_of r ≡ 0
       → (p : Plan) × (plan_of b c levels ≡ planned.Ready p) × StaysNear p.levels (dims_of p) (read (dims_of p) p.levels C) (read (dims_of p) p.levels o')
       × (RootsAway 2 p.levels (dims_of p) (read (dims_of p) p.levels C) → RootsAway 1 p.levels (dims_of p) (read (dims_of p) p.levels o'))
   refine_near {r} {o'} h z =
@@ -128,10 +129,10 @@ module _ (b : Bounds) (c : Float) (levels : ℕ) (C o : List ℕ) where
       (k.0, k.1, n, near_border l d (read d l C) (read d l o') n)
 
   -- a 4 of refine is the plan's, and names what that names
-  pub refine_fault : {r : Refined} {o' : List ℕ} → RefineDone b c levels C o r o' → number_of r ≡ 4
+  pub refine_fault : {r : Result ℕ RefineError} {o' : List ℕ} → RefineDone b c levels C o r o' → number_of r ≡ 4
       → (plan.number_of (plan_of b c levels) ≡ 4) × (values_of r ≡ plan.fault_of (plan_of b c levels) ∷ [])
   unfolding refined_of
-  refine_fault h = refusals.handed_up number_of values_of Refused (λ p. answer_for p C o) b c levels (λ why. refl) (λ why. refl) (λ p. answer_not_four p C o) h.answer
+  refine_fault h = refusals.handed_up number_of values_of (λ why. Err (Refused why)) (λ p. answer_for p C o) b c levels (λ why. refl) (λ why. refl) (λ p. answer_not_four p C o) h.answer
 
 -- the Rust's balance of the octree that the answers split: its rounds over a snapshot end, and wherever they end is our split table
 module _ (p : Plan) (C : List ℕ) where

@@ -7,6 +7,7 @@ use native.Mathlib.Omega.{arith}
 use borrow.Author.Tests.{lt-ltb, le-ltb}
 use lib.Ieee.{Float}
 use lib.ListN.{length, take, drop}
+use Rattle.std.specs.Prelude.{Result, Ok, Err}
 use lib.Seq.{length-take-le}
 use Rattle.refusals.specs.Rows.{first, proper}
 use Rattle.lists.specs.Tables.{front, on}
@@ -24,12 +25,12 @@ use Rattle.plan.specs.Parts.{Planful}
 use Rattle.plan.proofs.Ready.{ready}
 use Rattle.refine.specs.Parts.{TableAsked, TableDone}
 use Rattle.refine.specs.Step.{crossing_rows, number_of, split_of, refused_with, answer_for, refined_of, split_for, RefineDone}
-use Rattle.refine.specs.declared.Refined.{Refined}
-use Rattle.refine.specs.declared.Refined.TheVariants.{Done, Refused, Short}
+use Rattle.refine.specs.declared.RefineError.{RefineError}
+use Rattle.refine.specs.declared.RefineError.TheVariants.{Refused, Short}
 
 module _ (b : Bounds) (c : Float) (levels : ℕ) (C o : List ℕ) where
   -- refused by the plan
-  pub refused_plan : {r : Planned} {k n : Refusal} → r ≡ plan_of b c levels → r ≡ planned.Refused k → n ≡ refusal_of r → RefineDone b c levels C o (Refused n) o
+  pub refused_plan : {r : Planned} {k n : Refusal} → r ≡ plan_of b c levels → r ≡ planned.Refused k → n ≡ refusal_of r → RefineDone b c levels C o (Err (Refused n)) o
   unfolding refined_of
   refused_plan {r} {k} {n} e f g =
       let p : plan_of b c levels ≡ planned.Refused k = sym e ∙ f in
@@ -54,7 +55,7 @@ module _ (b : Bounds) (c : Float) (levels : ℕ) (C o : List ℕ) where
         }
 
     -- the outcome, by the answer of the plan
-    by_answer : {r : Refined} {o' : List ℕ} → r ≡ answer_for p C o → o' ≡ split_for p C o → RefineDone b c levels C o r o'
+    by_answer : {r : Result ℕ RefineError} {o' : List ℕ} → r ≡ answer_for p C o → o' ≡ split_for p C o → RefineDone b c levels C o r o'
     unfolding refined_of
     by_answer f g = record { answer = f ∙ rw e; split = g ∙ rw e }
 
@@ -67,18 +68,18 @@ module _ (b : Bounds) (c : Float) (levels : ℕ) (C o : List ℕ) where
         by_answer a (sym (as_lent (number_of (answer_for p C o)) _ o (λ q. h (ap number_of a ∙ q))))
 
     module _ (z : first (crossing_rows p.octants C) ≡ 0) where
-      pub short : length o < p.octants → RefineDone b c levels C o (Short p.octants) o
+      pub short : length o < p.octants → RefineDone b c levels C o (Err (Short p.octants)) o
       unfolding answer_for
       short h =
-          let a : Short p.octants ≡ answer_for p C o = sym (unless_none (first (crossing_rows p.octants C)) refused_with _ z ∙ rw (lt-ltb (length o) p.octants h)) in
+          let a : Err (Short p.octants) ≡ answer_for p C o = sym (unless_none (first (crossing_rows p.octants C)) refused_with _ z ∙ rw (lt-ltb (length o) p.octants h)) in
           by_answer a (sym (as_lent (number_of (answer_for p C o)) _ o (λ q. nine (ap number_of a ∙ q))))
         where
           nine : ◌≡◌ {A = ℕ} 9 0 → ⊥
           nine q = omega arith
 
       pub done : {n : ℕ} {s : List ℕ} → p.octants ≤ length o → TableDone (record { nx = p.nx; ny = p.ny; nz = p.nz; levels = p.levels }) C n s
-          → RefineDone b c levels C o (Done n) (s ++ drop p.octants o)
+          → RefineDone b c levels C o (Ok n) (s ++ drop p.octants o)
       unfolding answer_for
       done {n} {s} h t =
-          let a : Done n ≡ answer_for p C o = ap Done t.ones ∙ sym (unless_none (first (crossing_rows p.octants C)) refused_with _ z ∙ rw (le-ltb (length o) p.octants h)) in
+          let a : Ok n ≡ answer_for p C o = ap Ok t.ones ∙ sym (unless_none (first (crossing_rows p.octants C)) refused_with _ z ∙ rw (le-ltb (length o) p.octants h)) in
           by_answer a (ap (λ (l : List ℕ). l ++ drop p.octants o) t.split ∙ sym (ap (λ (k : ℕ). on (0 ∷ []) k (front p.octants (split_of p C) o) o) (sym (ap number_of a)) ∙ as_new [] _ o))

@@ -13,7 +13,7 @@ returns-then-d-eq0 c = none_done c.requires c.if-d-eq0.true
 pub clear-requires : goal.clear-requires
 clear-requires c =
     let p = c.requires in
-    let h = c.copy.ensures in
+    let h = (c.copy_from_slice.ensures.after) in
     let f : 1 ≤ c.args.d.levels = omega (arith, c.if-d-eq0.false) in
     (covers_again (p.covers f) (ap length h), f, ap (all_at_most 1) h ∙ p.answers)
 
@@ -22,10 +22,10 @@ balance-requires c =
     let p = c.requires in
     let h = c.clear.ensures in
     let f : 1 ≤ c.args.d.levels = omega (arith, c.if-d-eq0.false) in
-    (covers_again (p.covers f) (c.clear.auto.s ∙ ap length c.copy.ensures), f, ap (all_at_most 1) h ∙ table_bits _ _ _)
+    (covers_again (p.covers f) (c.clear.auto.s ∙ ap length (c.copy_from_slice.ensures.after)), f, ap (all_at_most 1) h ∙ table_bits _ _ _)
 
 pub ones-requires : goal.ones-requires
-ones-requires c = omega (arith, c.balance.auto.s, c.clear.auto.s, ap length c.copy.ensures, c.requires.few)
+ones-requires c = omega (arith, c.balance.auto.s, c.clear.auto.s, ap length (c.copy_from_slice.ensures.after), c.requires.few)
 
 pub returns : goal.returns
-returns c = table_done c.copy.ensures c.clear.ensures c.balance.ensures c.ones.ensures
+returns c = table_done (c.copy_from_slice.ensures.after) c.clear.ensures c.balance.ensures c.ones.ensures
