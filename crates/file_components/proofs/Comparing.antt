@@ -4,6 +4,7 @@ use mathlib.Core.Logic.{◌⊎◌, ◌≢◌}
 use mathlib.Core.Bool.{Bool, true, false}
 use mathlib.Core.List.{List}
 use Prim.Native.Nat.{ℕ, ◌+◌, ◌*◌, ◌≤◌, ◌<◌}
+use native.Mathlib.Nat.{add-zero}
 use native.Mathlib.Omega.{arith}
 use lib.ListN.{length, get_or, take, drop, replicate}
 use Rattle.mesh.specs.Mesh.{cells_of, Cells, cell_of}
@@ -11,8 +12,6 @@ use Rattle.mesh.specs.declared.Cell.{Cell}
 use Rattle.lists.specs.Tables.{same, all_below}
 use Rattle.lists.proofs.Listing.{same_on, same_off, same_end, same_length}
 use Rattle.words.specs.Words.{word_at, words_at}
-use Rattle.words.specs.Parts.{quad_at}
-use Rattle.words.specs.declared.Quad.{Quad}
 use Rattle.words.proofs.Words.{length_words, words_at_lem, length_cells, vertex_at}
 use Rattle.mesh.proofs.Named.{cell_is}
 use Rattle.links.proofs.Vertexes.{four_asked}
@@ -55,11 +54,12 @@ module _ (b : List ℕ) (s : Blocks) where
       vertex_is i 0 h (omega arith) e (f ∙ ap (word_at s.big b) z) ∙ ap (λ (j : ℕ). get_or C j 0) m
 
   -- the four words that were read at once are the cell
-  pub cell_read : {i a₀ b₀ c₀ d₀ : ℕ} {q : Quad} → i < s.n → q ≡ quad_at s.big b (s.cells + 4 * (s.stride * i)) → a₀ ≡ q.a → b₀ ≡ q.b → c₀ ≡ q.c → d₀ ≡ q.d
-      → ◌≡◌ {A = Cell} (record { a = a₀; b = b₀; c = c₀; d = d₀ }) (cell_of C i)
-  cell_read {i} h e ea eb ec ed =
-      cell_is C i (i * 4) (omega arith) (first_is i h ea (ap (λ (r : Quad). r.a) e)) (vertex_is i 1 h (omega arith) eb (ap (λ (r : Quad). r.b) e))
-      (vertex_is i 2 h (omega arith) ec (ap (λ (r : Quad). r.c) e)) (vertex_is i 3 h (omega arith) ed (ap (λ (r : Quad). r.d) e))
+  pub cell_read : {i : ℕ} {q : List ℕ} → i < s.n → q ≡ words_at s.big b (s.cells + 4 * (s.stride * i)) 4
+      → ◌≡◌ {A = Cell} (record { a = get_or q 0 0; b = get_or q 1 0; c = get_or q 2 0; d = get_or q 3 0 }) (cell_of C i)
+  cell_read {i} {q} h e = cell_is C i (i * 4) (omega arith) (nth 0 (omega arith) ∙ ap (λ (j : ℕ). get_or C j 0) (add-zero (i * 4))) (nth 1 (omega arith)) (nth 2 (omega arith)) (nth 3 (omega arith))
+    where
+      nth : (k : ℕ) → k < 4 → get_or q k 0 ≡ get_or C (i * 4 + k) 0
+      nth k l = vertex_is i k h l (ap (λ (r : List ℕ). get_or r k 0) e) (words_at_lem s.big b (s.cells + 4 * (s.stride * i)) 4 k l)
 
   pub cell_asks : {i : ℕ} {P : List ℕ} {k : Cell} → i < s.n → Cells C (length P) → Forest P → k ≡ cell_of C i → FourAsked P k
   cell_asks h v f e = four_asked (record { cells = v; forest = f; inside = omega (arith, cells_in_lem) }) e

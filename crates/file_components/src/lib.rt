@@ -16,7 +16,7 @@ use mesh::Cell;
 
 // Where a file has a mesh: p points, n cells and m component numbers, each kind from a place on. The words have their high byte first where
 // `big` says so, and a cell starts `stride` words behind the one before it.
-#[derive(Clone, Copy)]
+#[derive(Clone, Copy, Debug, PartialEq, Eq)]
 pub struct Blocks {
     pub p: usize,
     pub n: usize,
@@ -33,27 +33,28 @@ fn join_cell(file: &[u8], s: Blocks, parent: &mut [u32], i: usize)
     requires { CellsStand file.now s × Cells (cells_in file.now s) (length parent.old) × Forest parent.old × (i < s.n) }
     ensures { JoinedCell (cells_in file.now s) [] parent.old parent.new i }
 {
-    let q = words::quad_at(file, s.cells + 4 * (s.stride * i), s.big);
-    let a = lists::wide(q.a);
-    let b = lists::wide(q.b);
-    let c = lists::wide(q.c);
-    let d = lists::wide(q.d);
-    if links::is_joined(parent, Cell { a, b, c, d }) {
+    let [a, b, c, d] = words::quad_at(file, s.cells + 4 * (s.stride * i), s.big);
+    let cell = Cell {
+        a: a as usize,
+        b: b as usize,
+        c: c as usize,
+        d: d as usize,
+    };
+    if links::is_joined(parent, cell) {
         return;
     }
-    links::join_four(parent, a, b, c, d);
+    links::join_four(parent, cell.a, cell.b, cell.c, cell.d);
 }
 
-// The groups of the points that cells in a file join, from a table that holds anything.
+// The groups of the points that cells in a file join, from a table that holds anything. Beside `links::link`, over cells in a table: a
+// closure that reads a cell would carry both contracts, and be no plainer.
 fn link(file: &[u8], s: Blocks, parent: &mut [u32])
     requires { CellsStand file.now s × Cells (cells_in file.now s) (length parent.old) }
     ensures { Joint (cells_in file.now s) [] parent.new }
 {
     links::start(parent);
-    let mut i: usize = 0;
-    while i < s.n {
+    for i in 0..s.n {
         join_cell(file, s, parent, i);
-        i += 1;
     }
 }
 
@@ -76,17 +77,15 @@ fn compare(file: &[u8], s: Blocks, work: &mut [u32], n: usize, one: bool) -> boo
         return words::all_are(file, s.numbers, s.big, s.n, 0);
     }
     let mut count: usize = 0;
-    let mut i: usize = 0;
-    while i < s.n {
-        let v = lists::wide(words::word(file, s.cells + 4 * (s.stride * i), s.big));
+    for i in 0..s.n {
+        let v = words::word(file, s.cells + 4 * (s.stride * i), s.big) as usize;
         let k = components::number_at(work, n, v, count);
-        if lists::wide(words::word(file, s.numbers + 4 * i, s.big)) != k {
+        if words::word(file, s.numbers + 4 * i, s.big) as usize != k {
             return false;
         }
         if k == count {
             count += 1;
         }
-        i += 1;
     }
     true
 }
@@ -97,13 +96,13 @@ pub fn numbers_right(file: &[u8], s: Blocks, work: &mut [u32]) -> bool
     ensures { Told file.now s work.old work.new result }
 {
     if s.m != s.n {
-        lists::zero(work);
+        work.fill(0);
         return false;
     }
     let n = work.len() / 2;
     let one = prepare(file, s, work, n);
     let right = compare(file, s, work, n, one);
-    lists::zero(work);
+    work.fill(0);
     right
 }
 
@@ -127,15 +126,13 @@ fn put_each(
         return;
     }
     let mut count: usize = 0;
-    let mut i: usize = 0;
-    while i < many {
-        let v = lists::wide(cells[i * 4]);
+    for i in 0..many {
+        let v = cells[i * 4] as usize;
         let k = components::number_at(work, n, v, count);
         words::put_word(file, at + 4 * i, big, k as u32);
         if k == count {
             count += 1;
         }
-        i += 1;
     }
 }
 
@@ -147,5 +144,5 @@ pub fn put_numbers(cells: &[u32], file: &mut [u8], at: usize, big: bool, work: &
     let n = work.len() / 2;
     let one = components::prepare(cells, work, n);
     put_each(cells, file, at, big, work, n, one);
-    lists::zero(work);
+    work.fill(0);
 }

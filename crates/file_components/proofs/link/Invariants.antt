@@ -1,4 +1,3 @@
-use Prim.Native.Nat.{◌-◌}
 use mathlib.Core.List.{[]}
 use lib.ListN.{length}
 use Rattle.links.proofs.Vertexes.{Joining}
@@ -7,6 +6,3 @@ use Rattle.file_components.proofs.link.Given as goal
 
 abbrev pub invariant-loop-i : goal.invariant-loop-i
 invariant-loop-i l = Joining (cells_in l.file l.s) [] l.parent (length l.initial.parent) l.i
-
-abbrev pub decreases-loop-i : goal.decreases-loop-i
-decreases-loop-i l = l.s.n - l.i
