@@ -3,7 +3,7 @@ use mathlib.Core.Path.{◌≡◌, refl, sym, ap, ◌∙◌}
 use mathlib.Core.Bool.{true, false}
 use mathlib.Core.List.{List}
 use Prim.Native.Nat.{ℕ, ◌+◌, ◌-◌, ◌*◌, ◌/◌, ◌≤◌, ◌<◌, min}
-use native.Mathlib.Nat.{mul-le-mul, le-div_iff_mul-le, min-eq_left, min-eq_right}
+use native.Mathlib.Nat.{mul-le-mul, le-div_iff_mul-le}
 use native.Mathlib.Omega.{arith}
 use borrow.Author.Tests.{lt-ltb, le-ltb, ltb-false}
 use lib.Dec.{ltb}
@@ -72,16 +72,6 @@ module _ (w : ℕ) (b : List ℕ) (at : ℕ) (e : Entries w) where
   pub end_is : {n : ℕ} → n ≡ count_at b at → at + 4 + 4 * (w * n) ≡ end_of w b at
   unfolding end_of
   end_is q = rw q refl
-
-  -- the two ways out of `whole`
-  module _ {n m : ℕ} (en : n ≡ count_at b at) (em : m ≡ (length b - (at + 4)) / (4 * w)) where
-    pub whole_there : m < n → m ≡ whole_at w b at
-    unfolding whole_at
-    whole_there h = em ∙ sym (min-eq_right (omega arith))
-
-    pub whole_all : n ≤ m → n ≡ whole_at w b at
-    unfolding whole_at
-    whole_all h = en ∙ sym (min-eq_left (omega arith))
 
 -- ---- the three
 

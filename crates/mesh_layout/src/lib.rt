@@ -22,8 +22,7 @@ pub fn count(file: &[u8], at: usize) -> usize
     requires { at + 4 ≤ length file.now }
     ensures { (result ≡ count_at file.now at) × (result < 4294967296) }
 {
-    let found = words::word(file, at, false);
-    lists::wide(found)
+    words::word(file, at, false) as usize
 }
 
 // How many entries of `size` words are there whole, of those that the section at a place announces.
@@ -33,10 +32,7 @@ pub fn whole(file: &[u8], at: usize, size: usize) -> usize
 {
     let announced = count(file, at);
     let there = (file.len() - (at + 4)) / (4 * size);
-    if there < announced {
-        return there;
-    }
-    announced
+    announced.min(there)
 }
 
 // Whether the file ends inside the section at a place, or inside its count.

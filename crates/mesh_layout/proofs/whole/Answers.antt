@@ -1,9 +1,7 @@
-use mathlib.Core.Path.{refl}
-use Rattle.mesh_layout.proofs.Sections.{whole_there, whole_all}
+use mathlib.Core.Path.{◌∙◌}
+use Rattle.mesh_layout.specs.Layout.{whole_at}
 use Rattle.mesh_layout.proofs.whole.Goals as goal
 
-pub returns-then-there-announced : goal.returns-then-there-announced
-returns-then-there-announced c = whole_there _ _ _ c.requires.0 c.count-announced.ensures.0 refl c.if-there-announced.true
-
 pub returns : goal.returns
-returns c = whole_all _ _ _ c.requires.0 c.count-announced.ensures.0 refl c.if-there-announced.false
+unfolding whole_at
+returns c = c.min.ensures ∙ rw c.count-announced.ensures.0
