@@ -2,63 +2,90 @@
 use mathlib.Core.Path.{◌≡◌, refl, sym, ap, ◌∙◌}
 use mathlib.Core.Logic.{◌⊎◌, inl, inr, ◌≢◌}
 use mathlib.Core.Bool.{Bool, true, false, cond, not, ◌&&◌, ◌||◌}
-use mathlib.Core.List.{List, [], ◌∷◌}
+use mathlib.Core.List.{List, [], ◌∷◌, ◌++◌}
 use Prim.Native.Nat.{ℕ, ◌<◌}
 use native.Mathlib.Omega.{arith}
 use borrow.Author.Tests.{eq-eqb, ne_eqb, eqb-false, not-true}
 use lib.Dec.{eqb}
 use Rattle.lists.specs.Tables.{on, among}
-use Rattle.lists.proofs.Bools.{and_left, and_right}
+use Rattle.lists.proofs.Bools.{and_left, and_right, both_and}
 use Rattle.lists.proofs.Cases.{eq_or}
 use Rattle.refusals.specs.Rows.{Row, ◌when◌, first}
-use Rattle.refusals.specs.Counted.{number_of as countedNumber}
-use Rattle.refusals.specs.declared.Counted.TheVariants as counted
-use Rattle.file_steps.specs.Loaded.{number_of, loaded_by}
+use Rattle.refusals.specs.Refusals.{as_number, as_refusal, named, count_number}
+use Rattle.refusals.specs.declared.Refusal.{Refusal}
+use Rattle.refusals.specs.declared.CountError.{CountError}
+use Rattle.refusals.specs.declared.CountError.TheVariants as count
+use Rattle.refusals.proofs.Refusals.{its_own, above_none}
+use Rattle.file_steps.specs.Loaded.{done, number_of, loaded_by}
 use Rattle.file_steps.specs.Writer.{written_by}
-use Rattle.file_steps.specs.declared.Loaded.TheVariants as loaded
+use Rattle.file_steps.specs.declared.Loaded.{Loaded}
+use Rattle.file_steps.specs.declared.LoadError.{LoadError}
+use Rattle.file_steps.specs.declared.LoadError.TheVariants as loads
+use Rattle.std.specs.Prelude.{Result, Ok, Err}
 
 -- ---- an outcome has the number that it is made of
 
+-- each of two groups of rows has the numbers of refusals
+pub named_both : (a b : List Row) → named a ≡ true → named b ≡ true → named (a ++ b) ≡ true
+unfolding named
+named_both [] b h g = g
+named_both (k when t ∷ a) b h g =
+    both_and (eqb (as_number (as_refusal k)) k) (named (a ++ b)) (and_left (eqb (as_number (as_refusal k)) k) (named a) h)
+    (named_both a b (and_right (eqb (as_number (as_refusal k)) k) (named a) h) g)
+
 module _ (k p n : ℕ) where
-  pub loaded_number : number_of (loaded_by k p n) ≡ k
+  pub loaded_number : (k ≢ 0 → as_number (as_refusal k) ≡ k) → number_of (loaded_by k p n) ≡ k
   unfolding loaded_by
-  loaded_number = go (eq_or k 0) (eq_or k 9)
+  loaded_number h = go (eq_or k 0) (eq_or k 9)
     where
       go : (k ≡ 0) ⊎ (k ≢ 0) → (k ≡ 9) ⊎ (k ≢ 9) → number_of (loaded_by k p n) ≡ k
       go (inl z) q = rw (eq-eqb k 0 z) (sym z)
       go (inr z) (inl q) = rw (ne_eqb k 0 z, eq-eqb k 9 q) (sym q)
-      go (inr z) (inr q) = rw (ne_eqb k 0 z, ne_eqb k 9 q) refl
+      go (inr z) (inr q) = rw (ne_eqb k 0 z, ne_eqb k 9 q) (h z)
 
-  pub loaded_refused : k ≢ 0 → k ≢ 9 → loaded_by k p n ≡ loaded.Refused k
+  pub loaded_refused : (why : Refusal) → as_number why ≡ k → k ≢ 9 → loaded_by k p n ≡ Err (loads.Refused why)
   unfolding loaded_by
-  loaded_refused z q = rw (ne_eqb k 0 z, ne_eqb k 9 q) refl
+  loaded_refused why e q =
+      let z : k ≢ 0 = λ d. above_none why (e ∙ d) in
+      rw (ne_eqb k 0 z, ne_eqb k 9 q) (ap (λ (y : ℕ). Err (loads.Refused (as_refusal y))) (sym e) ∙ ap (λ (y : Refusal). Err (loads.Refused y)) (its_own why))
 
   -- and an answer carries points and cells
-  pub loaded_done : {p' n' : ℕ} → loaded_by k p n ≡ loaded.Done p' n' → (k ≡ 0) × (p ≡ p') × (n ≡ n')
-  loaded_done {p'} {n'} e =
-      let z : k ≡ 0 = sym loaded_number ∙ ap number_of e in
-      let d : loaded.Done p n ≡ loaded.Done p' n' = sym (ap (λ (j : ℕ). loaded_by j p n) z ∙ unfold loaded_by in refl) ∙ e in
-      (z, (cc), (cc))
+  pub loaded_done : {p' n' : ℕ} → loaded_by k p n ≡ done p' n' → (k ≡ 0) × (p ≡ p') × (n ≡ n')
+  unfolding loaded_by
+  loaded_done {p'} {n'} e = go (eq_or k 0) (eq_or k 9)
+    where
+      go : (k ≡ 0) ⊎ (k ≢ 0) → (k ≡ 9) ⊎ (k ≢ 9) → (k ≡ 0) × (p ≡ p') × (n ≡ n')
+      go (inl z) q =
+          let d : done p n ≡ done p' n' = rw (eq-eqb k 0 z) at e in
+          let r : ◌≡◌ {A = Loaded} (record { points = p; cells = n }) (record { points = p'; cells = n' }) = cc in
+          (z, ap (λ (x : Loaded). x.points) r, ap (λ (x : Loaded). x.cells) r)
+      go (inr z) (inl q) = let d : ◌≡◌ {A = Result Loaded LoadError} (Err (loads.Short p n)) (done p' n') = rw (ne_eqb k 0 z, eq-eqb k 9 q) at e in cc
+      go (inr z) (inr q) = let d : ◌≡◌ {A = Result Loaded LoadError} (Err (loads.Refused (as_refusal k))) (done p' n') = rw (ne_eqb k 0 z, ne_eqb k 9 q) at e in cc
 
 module _ (k n : ℕ) where
-  pub written_number : countedNumber (written_by k n) ≡ k
+  pub written_number : (k ≢ 0 → as_number (as_refusal k) ≡ k) → count_number (written_by k n) ≡ k
   unfolding written_by
-  written_number = go (eq_or k 0) (eq_or k 9)
+  written_number h = go (eq_or k 0) (eq_or k 9)
     where
-      go : (k ≡ 0) ⊎ (k ≢ 0) → (k ≡ 9) ⊎ (k ≢ 9) → countedNumber (written_by k n) ≡ k
+      go : (k ≡ 0) ⊎ (k ≢ 0) → (k ≡ 9) ⊎ (k ≢ 9) → count_number (written_by k n) ≡ k
       go (inl z) q = rw (eq-eqb k 0 z) (sym z)
       go (inr z) (inl q) = rw (ne_eqb k 0 z, eq-eqb k 9 q) (sym q)
-      go (inr z) (inr q) = rw (ne_eqb k 0 z, ne_eqb k 9 q) refl
+      go (inr z) (inr q) = rw (ne_eqb k 0 z, ne_eqb k 9 q) (h z)
 
-  pub written_refused : k ≢ 0 → k ≢ 9 → written_by k n ≡ counted.Refused k
+  pub written_refused : (why : Refusal) → as_number why ≡ k → k ≢ 9 → written_by k n ≡ Err (count.Refused why)
   unfolding written_by
-  written_refused z q = rw (ne_eqb k 0 z, ne_eqb k 9 q) refl
+  written_refused why e q =
+      let z : k ≢ 0 = λ d. above_none why (e ∙ d) in
+      rw (ne_eqb k 0 z, ne_eqb k 9 q) (ap (λ (y : ℕ). Err (count.Refused (as_refusal y))) (sym e) ∙ ap (λ (y : Refusal). Err (count.Refused y)) (its_own why))
 
-  pub written_done : {m : ℕ} → written_by k n ≡ counted.Done m → (k ≡ 0) × (n ≡ m)
-  written_done {m} e =
-      let z : k ≡ 0 = sym written_number ∙ ap countedNumber e in
-      let d : counted.Done n ≡ counted.Done m = sym (ap (λ (j : ℕ). written_by j n) z ∙ unfold written_by in refl) ∙ e in
-      (z, (cc))
+  pub written_done : {m : ℕ} → written_by k n ≡ Ok m → (k ≡ 0) × (n ≡ m)
+  unfolding written_by
+  written_done {m} e = go (eq_or k 0) (eq_or k 9)
+    where
+      go : (k ≡ 0) ⊎ (k ≢ 0) → (k ≡ 9) ⊎ (k ≢ 9) → (k ≡ 0) × (n ≡ m)
+      go (inl z) q = let d : ◌≡◌ {A = Result ℕ CountError} (Ok n) (Ok m) = rw (eq-eqb k 0 z) at e in (z, (cc))
+      go (inr z) (inl q) = let d : ◌≡◌ {A = Result ℕ CountError} (Err (count.Short n)) (Ok m) = rw (ne_eqb k 0 z, eq-eqb k 9 q) at e in cc
+      go (inr z) (inr q) = let d : ◌≡◌ {A = Result ℕ CountError} (Err (count.Refused (as_refusal k))) (Ok m) = rw (ne_eqb k 0 z, ne_eqb k 9 q) at e in cc
 
 -- ---- rows without a number
 

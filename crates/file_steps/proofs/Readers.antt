@@ -1,14 +1,15 @@
 -- The ways out of a reader, whatever its format. Assumes nothing.
 use mathlib.Core.Path.{◌≡◌, refl, sym, ap, subst, ◌∙◌}
-use mathlib.Core.Logic.{◌≢◌}
+use mathlib.Core.Logic.{◌≢◌, ◌⊎◌, inl, inr}
 use mathlib.Core.Bool.{Bool, true, false, cond}
 use mathlib.Core.List.{List, [], ◌∷◌, ◌++◌, append_assoc}
-use Prim.Native.Nat.{ℕ, ◌*◌, ◌/◌, ◌≤◌}
+use Prim.Native.Nat.{ℕ, ◌*◌, ◌/◌, ◌≤◌, ◌<◌}
 use native.Mathlib.Omega.{arith}
-use borrow.Author.Tests.{le-ltb, ltb-false}
-use lib.Dec.{ltb}
+use borrow.Author.Tests.{lt-ltb, le-ltb, lt-leb, le-leb, ltb-false, eqb-true, eqb-false}
+use lib.Dec.{eqb, leb, ltb}
 use lib.ListN.{length, take, drop, replicate}
 use lib.Seq.{length-take-le}
+use Rattle.lists.proofs.Cases.{lt_or}
 use Rattle.lists.proofs.Lent.{below_at, as_lent, as_new}
 use Rattle.refusals.specs.Rows.{Row, first, proper}
 use Rattle.refusals.specs.Causes.{room_rows}
@@ -23,11 +24,17 @@ use Rattle.components.specs.Parts.{Fits}
 use Rattle.file_components.specs.Blocks.{points_in, cells_in}
 use Rattle.file_components.specs.Parts.{Stands, Told}
 use Rattle.file_components.specs.declared.Blocks.{Blocks}
-use Rattle.file_steps.specs.Loaded.{loaded_by}
+use Rattle.file_steps.specs.Loaded.{done as read, loaded_by}
 use Rattle.file_steps.specs.Reader.{content_rows, table_rows, number_rows, read_number, Reads}
 use Rattle.file_steps.specs.Meshes.{Room}
 use Rattle.file_steps.specs.declared.Loaded.{Loaded}
-use Rattle.file_steps.specs.declared.Loaded.TheVariants.{Done, Refused, Short}
+use Rattle.file_steps.specs.declared.LoadError.{LoadError}
+use Rattle.file_steps.specs.declared.LoadError.TheVariants.{Refused, Short}
+use Rattle.std.specs.Prelude.{Result, Err}
+use Rattle.refusals.specs.Refusals.{as_number, as_refusal}
+use Rattle.refusals.specs.declared.Refusal.{Refusal}
+use Rattle.refusals.specs.declared.Refusal.TheVariants.{Numbers}
+use Rattle.refusals.proofs.Refusals.{above_none}
 use Rattle.file_steps.proofs.Numbers.{loaded_refused, lacks, first_lacks, lent_twice, new_twice}
 
 -- ---- room
@@ -61,6 +68,30 @@ module _ (points cells work p n : ℕ) where
   pub unrefused : Room points cells work p n → first (table_rows points cells work p n) ≡ 0
   unfolding table_rows first room_rows
   unrefused r = rw (le-ltb (points / 3) p r.for_points, le-ltb (cells / 4) n r.for_cells, le-ltb work (2 * p) r.for_work) refl
+
+  -- the test of it, one table after the other
+  pub no_points : points / 3 < p → false ≡ eqb (first (table_rows points cells work p n)) 0
+  unfolding table_rows first room_rows
+  no_points h = rw (lt-ltb (points / 3) p h) refl
+
+  module _ (hp : p ≤ points / 3) where
+    pub no_cells : cells / 4 < n → false ≡ eqb (first (table_rows points cells work p n)) 0
+    unfolding table_rows first room_rows
+    no_cells h = rw (le-ltb (points / 3) p hp, lt-ltb (cells / 4) n h) refl
+
+    pub work_told : n ≤ cells / 4 → leb (2 * p) work ≡ eqb (first (table_rows points cells work p n)) 0
+    unfolding table_rows first room_rows
+    work_told h = go (lt_or work (2 * p))
+      where
+        go : (work < 2 * p) ⊎ (2 * p ≤ work) → leb (2 * p) work ≡ eqb (first (table_rows points cells work p n)) 0
+        go (inl l) = rw (le-ltb (points / 3) p hp, le-ltb (cells / 4) n h, lt-ltb work (2 * p) l, lt-leb (2 * p) work l) refl
+        go (inr l) = rw (le-ltb (points / 3) p hp, le-ltb (cells / 4) n h, le-ltb work (2 * p) l, le-leb (2 * p) work l) refl
+
+  pub has : {r : Bool} → r ≡ eqb (first (table_rows points cells work p n)) 0 → r ≡ true → first (table_rows points cells work p n) ≡ 0
+  has e h = eqb-true _ _ (sym e ∙ h)
+
+  pub has_not : {r : Bool} → r ≡ eqb (first (table_rows points cells work p n)) 0 → r ≡ false → first (table_rows points cells work p n) ≢ 0
+  has_not e h = eqb-false _ _ (sym e ∙ h)
 
   -- the only number of a refusal
   pub short_nine : first (table_rows points cells work p n) ≢ 0 → first (table_rows points cells work p n) ≡ 9
@@ -103,38 +134,40 @@ work_fits b s w h c =
 
 module _ (rows : List Row) (b : List ℕ) (s : Blocks) (x y w : List ℕ) where
   -- refused by the file alone
-  pub refused : {r : ℕ} → lacks 9 rows ≡ true → lacks 13 rows ≡ true → r ≡ first rows → r ≢ 0 → Reads rows b s x y w (Refused r) x y w
-  refused {r} nine thirteen e d =
+  pub refused : {why : Refusal} → lacks 9 rows ≡ true → lacks 13 rows ≡ true → as_number why ≡ first rows → Reads rows b s x y w (Err (Refused why)) x y w
+  refused {why} nine thirteen e =
+      let r : ℕ = as_number why in
+      let d : r ≢ 0 = above_none why in
       let k : read_number rows b s x y w ≡ r = sym (stops rows _ e d) in
       let d9 : r ≢ 9 = λ q. first_lacks 9 rows (omega arith) nine (sym e ∙ q) in
       let d13 : r ≢ 13 = λ q. first_lacks 13 rows (omega arith) thirteen (sym e ∙ q) in
       record {
-        answer = rw k (sym (loaded_refused r s.p s.n d d9));
+        answer = rw k (sym (loaded_refused r s.p s.n why refl d9));
         points = rw k (sym (as_lent r _ x d));
         cells = rw k (sym (as_lent r _ y d));
         work = rw k (sym (lent_twice 13 r _ w d d13));
       }
 
   -- rows that give the number which others give, whatever follows
-  shift : (more : List Row) → ((T : List Row) → first (rows ++ T) ≡ first (more ++ T)) → {r : Loaded} {x' y' w' : List ℕ}
+  shift : (more : List Row) → ((T : List Row) → first (rows ++ T) ≡ first (more ++ T)) → {r : Result Loaded LoadError} {x' y' w' : List ℕ}
       → Reads more b s x y w r x' y' w' → Reads rows b s x y w r x' y' w'
   shift more h l =
       let k : read_number rows b s x y w ≡ read_number more b s x y w = h (table_rows (length x) (length y) (length w) s.p s.n ++ number_rows b s) in
       record { answer = rw k l.answer; points = rw k l.points; cells = rw k l.cells; work = rw k l.work }
 
   -- what follows where it is not refused by the file alone, or by the first rows
-  pub after : proper rows ≡ true → first rows ≡ 0 → {r : Loaded} {x' y' w' : List ℕ} → Reads [] b s x y w r x' y' w' → Reads rows b s x y w r x' y' w'
+  pub after : proper rows ≡ true → first rows ≡ 0 → {r : Result Loaded LoadError} {x' y' w' : List ℕ} → Reads [] b s x y w r x' y' w' → Reads rows b s x y w r x' y' w'
   after h z = shift [] (λ T. goes_on rows T h refl z)
 
-pub behind : (rows more : List Row) (b : List ℕ) (s : Blocks) (x y w : List ℕ) → proper rows ≡ true → first rows ≡ 0 → {r : Loaded} {x' y' w' : List ℕ}
+pub behind : (rows more : List Row) (b : List ℕ) (s : Blocks) (x y w : List ℕ) → proper rows ≡ true → first rows ≡ 0 → {r : Result Loaded LoadError} {x' y' w' : List ℕ}
     → Reads more b s x y w r x' y' w' → Reads (rows ++ more) b s x y w r x' y' w'
 behind rows more b s x y w h z = shift (rows ++ more) b s x y w more (λ T. ap first (append_assoc rows more T) ∙ goes_on rows (more ++ T) h refl z)
 
 module _ (b : List ℕ) (s : Blocks) (x y w : List ℕ) where
-  pub short : {r : ℕ} → r ≡ first (table_rows (length x) (length y) (length w) s.p s.n) → r ≢ 0 → Reads [] b s x y w (Short s.p s.n) x y w
+  pub short : first (table_rows (length x) (length y) (length w) s.p s.n) ≢ 0 → Reads [] b s x y w (Err (Short s.p s.n)) x y w
   unfolding loaded_by
-  short e d =
-      let q : first (table_rows (length x) (length y) (length w) s.p s.n) ≡ 9 = short_nine (length x) (length y) (length w) s.p s.n (λ z. d (e ∙ z)) in
+  short d =
+      let q : first (table_rows (length x) (length y) (length w) s.p s.n) ≡ 9 = short_nine (length x) (length y) (length w) s.p s.n d in
       let k : read_number [] b s x y w ≡ 9 = sym (stops (table_rows (length x) (length y) (length w) s.p s.n) _ (sym q) (λ z. omega arith)) in
       record {
         answer = rw k refl;
@@ -156,8 +189,8 @@ module _ (b : List ℕ) (s : Blocks) (x y w : List ℕ) where
     number : read_number [] b s x y w ≡ first (number_rows b s)
     number = goes_on (table_rows (length x) (length y) (length w) s.p s.n) (number_rows b s) (rooms_proper (length x) (length y) (length w) s.p s.n) refl z
 
-    pub wrong : {w' : List ℕ} {r : Bool} → r ≡ false → Told b s (take (2 * s.p) w) w' r → Reads [] b s x y w (Refused 13) x y (w' ++ drop (2 * s.p) w)
-    unfolding loaded_by number_rows first
+    pub wrong : {w' : List ℕ} {r : Bool} → r ≡ false → Told b s (take (2 * s.p) w) w' r → Reads [] b s x y w (Err (Refused Numbers)) x y (w' ++ drop (2 * s.p) w)
+    unfolding loaded_by as_refusal number_rows first
     wrong f t =
         let k : read_number [] b s x y w ≡ 13 = number ∙ rw (sym t.right ∙ f) refl in
         record {
@@ -168,7 +201,7 @@ module _ (b : List ℕ) (s : Blocks) (x y w : List ℕ) where
         }
 
     pub done : {x' y' w' : List ℕ} {r : Bool} → r ≡ true → Told b s (take (2 * s.p) w) w' r → x' ≡ words_at s.big b s.points (length (take (3 * s.p) x))
-        → y' ≡ cells_in b s → Reads [] b s x y w (Done s.p s.n) (x' ++ drop (3 * s.p) x) (y' ++ drop (4 * s.n) y) (w' ++ drop (2 * s.p) w)
+        → y' ≡ cells_in b s → Reads [] b s x y w (read s.p s.n) (x' ++ drop (3 * s.p) x) (y' ++ drop (4 * s.n) y) (w' ++ drop (2 * s.p) w)
     unfolding loaded_by number_rows first
     done {x'} f t ex ey =
         let k : read_number [] b s x y w ≡ 0 = number ∙ rw (sym t.right ∙ f) refl in

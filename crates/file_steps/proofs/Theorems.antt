@@ -2,7 +2,7 @@
 use mathlib.Core.Path.{◌≡◌, refl, sym, ap, ap₂, subst, ◌∙◌}
 use mathlib.Core.Logic.{◌≢◌, ◌↔◌}
 use mathlib.Core.Bool.{true, false}
-use mathlib.Core.List.{List, [], ◌∷◌}
+use mathlib.Core.List.{List, [], ◌∷◌, ◌++◌}
 use Prim.Native.Nat.{ℕ, ◌*◌, ◌≤◌, ◌<◌}
 use native.Mathlib.Omega.{arith}
 use borrow.Author.Tests.{le-ltb, not-false}
@@ -12,9 +12,10 @@ use Rattle.lists.specs.Tables.{all_below, front, zeroed, Determined}
 use Rattle.lists.proofs.Lent.{all_below_lem, as_lent, as_new, determined}
 use Rattle.refusals.specs.Rows.{Row, InTurn, first, proper, rising, caused, lower}
 use Rattle.refusals.specs.Causes.{work_rows, room_rows}
-use Rattle.refusals.specs.Counted.{number_of as countedNumber}
-use Rattle.refusals.specs.declared.Counted.{Counted}
-use Rattle.refusals.specs.declared.Counted.TheVariants as counted
+use Rattle.std.specs.Prelude.{Result, Ok}
+use Rattle.refusals.specs.Refusals.{as_refusal, named, count_number}
+use Rattle.refusals.specs.declared.CountError.{CountError}
+use Rattle.refusals.proofs.Refusals.{first_named}
 use Rattle.refusals.proofs.Rows.{clear, goes_on, front_clear, rest_clear, in_turn, exactly}
 use Rattle.mesh.specs.Mesh.{most, points_of, cells_of, Cells}
 use Rattle.mesh.specs.Judged.{count_rows, whole_rows, size_rows, name_rows, mesh_rows}
@@ -23,45 +24,49 @@ use Rattle.words.proofs.Words.{length_words, length_cells, words_small}
 use Rattle.file_components.specs.Blocks.{points_in, cells_in, right_numbers}
 use Rattle.file_components.specs.Parts.{Stands}
 use Rattle.file_components.specs.declared.Blocks.{Blocks}
-use Rattle.file_steps.specs.Loaded.{number_of, loaded_by}
+use Rattle.file_steps.specs.Loaded.{done, number_of, loaded_by}
 use Rattle.file_steps.specs.Reader.{content_rows, table_rows, number_rows, read_rows, read_number, Reads}
 use Rattle.file_steps.specs.Writer.{write_rows, write_number, written_by, Writes}
 use Rattle.file_steps.specs.Meshes.{Mesh, Room, Back}
 use Rattle.file_steps.specs.declared.Loaded.{Loaded}
-use Rattle.file_steps.specs.declared.Loaded.TheVariants as loaded
-use Rattle.file_steps.proofs.Numbers.{loaded_number, loaded_done, written_number, written_done}
+use Rattle.file_steps.specs.declared.LoadError.{LoadError}
+use Rattle.file_steps.proofs.Numbers.{named_both, loaded_number, loaded_done, written_number, written_done}
 use Rattle.file_steps.proofs.Readers.{rooms_proper, unrefused}
 
 -- ---- writers
 
 module _ (e n : ℕ) (f P C o w : List ℕ) where
   -- one outcome only
-  pub write_one : Determined (λ (z : Counted × List ℕ × List ℕ). Writes e n f P C o w z.0 z.1 z.2)
+  pub write_one : Determined (λ (z : Result ℕ CountError × List ℕ × List ℕ). Writes e n f P C o w z.0 z.1 z.2)
   write_one = determined (λ z a i. (a.answer i, a.file i, a.work i))
 
   rise : rising 1 (write_rows e n P C o w) ≡ true
   unfolding rising mesh_rows size_rows count_rows whole_rows work_rows name_rows room_rows
   rise = refl
 
-  module _ {r : Counted} {o' w' : List ℕ} (d : Writes e n f P C o w r o' w') where
-    number : countedNumber r ≡ write_number e n P C o w
-    number = ap countedNumber d.answer ∙ written_number (write_number e n P C o w) n
+  names : named (write_rows e n P C o w) ≡ true
+  unfolding named as_refusal mesh_rows size_rows count_rows whole_rows work_rows name_rows room_rows
+  names = refl
+
+  module _ {r : Result ℕ CountError} {o' w' : List ℕ} (d : Writes e n f P C o w r o' w') where
+    number : count_number r ≡ write_number e n P C o w
+    number = ap count_number d.answer ∙ written_number (write_number e n P C o w) n (first_named (write_rows e n P C o w) names)
 
     -- each refusal exactly when, in order; and so the lowest first
-    pub write_in_turn : (k : ℕ) → 0 < k → (countedNumber r ≡ k) ↔ InTurn k (write_rows e n P C o w)
+    pub write_in_turn : (k : ℕ) → 0 < k → (count_number r ≡ k) ↔ InTurn k (write_rows e n P C o w)
     write_in_turn = in_turn (write_rows e n P C o w) number
 
-    pub write_exactly : (k : ℕ) → 0 < k → (countedNumber r ≡ k) ↔ ((caused k (write_rows e n P C o w) ≡ true) × (lower k (write_rows e n P C o w) ≡ false))
+    pub write_exactly : (k : ℕ) → 0 < k → (count_number r ≡ k) ↔ ((caused k (write_rows e n P C o w) ≡ true) × (lower k (write_rows e n P C o w) ≡ false))
     write_exactly = exactly (write_rows e n P C o w) rise number
 
     -- nothing is stored on a refusal
-    pub write_refused : countedNumber r ≢ 0 → (o' ≡ o) × (w' ≡ w)
+    pub write_refused : count_number r ≢ 0 → (o' ≡ o) × (w' ≡ w)
     write_refused q =
         let k : write_number e n P C o w ≢ 0 = λ z. q (number ∙ z) in
         (d.file ∙ as_lent _ _ o k, d.work ∙ as_lent _ _ w k)
 
   -- an answer
-  module _ {bytes : ℕ} {o' w' : List ℕ} (d : Writes e n f P C o w (counted.Done bytes) o' w') where
+  module _ {bytes : ℕ} {o' w' : List ℕ} (d : Writes e n f P C o w (Ok bytes) o' w') where
     answered : (write_number e n P C o w ≡ 0) × (n ≡ bytes)
     answered = written_done (write_number e n P C o w) n (sym d.answer)
 
@@ -78,7 +83,7 @@ module _ (e n : ℕ) (f P C o w : List ℕ) where
         ap₂ (λ (m : ℕ) (z : List ℕ). take m z) (sym answered.1) k ∙ take_at f _ n l
 
   -- with room every mesh is taken
-  pub takes : Mesh P C → e * points_of P ≤ length w → n ≤ length o → {r : Counted} {o' w' : List ℕ} → Writes e n f P C o w r o' w' → r ≡ counted.Done n
+  pub takes : Mesh P C → e * points_of P ≤ length w → n ≤ length o → {r : Result ℕ CountError} {o' w' : List ℕ} → Writes e n f P C o w r o' w' → r ≡ Ok n
   unfolding written_by first room_rows
   takes m v h d =
       let z : first (mesh_rows (length P) C (length w) 0 e) ≡ 0 = fits_mesh (length P) C (length w) 0 e (record { points = m.points; cells = m.cells; work = omega arith }) in
@@ -120,21 +125,27 @@ pub record Answered (rows : List Row) (b : List ℕ) (s : Blocks) (p n : ℕ) (x
 
 module _ (rows : List Row) (b : List ℕ) (s : Blocks) (x y w : List ℕ) where
   -- one outcome only
-  pub read_one : Determined (λ (z : Loaded × List ℕ × List ℕ × List ℕ). Reads rows b s x y w z.0 z.1 z.2 z.3)
+  pub read_one : Determined (λ (z : Result Loaded LoadError × List ℕ × List ℕ × List ℕ). Reads rows b s x y w z.0 z.1 z.2 z.3)
   read_one = determined (λ z a i. (a.answer i, a.points i, a.cells i, a.work i))
 
-  module _ {r : Loaded} {x' y' w' : List ℕ} (d : Reads rows b s x y w r x' y' w') where
-    pub read_number_lem : number_of r ≡ read_number rows b s x y w
-    read_number_lem = ap number_of d.answer ∙ loaded_number (read_number rows b s x y w) s.p s.n
+  module _ {r : Result Loaded LoadError} {x' y' w' : List ℕ} (d : Reads rows b s x y w r x' y' w') where
+    -- rows that have the numbers of refusals
+    module _ (h : named rows ≡ true) where
+      pub read_number_lem : number_of r ≡ read_number rows b s x y w
+      unfolding named as_refusal table_rows room_rows number_rows
+      read_number_lem =
+          let more : named (table_rows (length x) (length y) (length w) s.p s.n ++ number_rows b s) ≡ true = refl in
+          ap number_of d.answer ∙ loaded_number (read_number rows b s x y w) s.p s.n (first_named (read_rows rows b s x y w) (named_both rows _ h more))
 
-    -- each refusal exactly when, in order
-    pub read_in_turn : (k : ℕ) → 0 < k → (number_of r ≡ k) ↔ InTurn k (read_rows rows b s x y w)
-    read_in_turn = in_turn (read_rows rows b s x y w) read_number_lem
+      -- each refusal exactly when, in order
+      pub read_in_turn : (k : ℕ) → 0 < k → (number_of r ≡ k) ↔ InTurn k (read_rows rows b s x y w)
+      read_in_turn = in_turn (read_rows rows b s x y w) read_number_lem
 
     -- nothing of a mesh is stored on a refusal
     pub read_refused : number_of r ≢ 0 → (x' ≡ x) × (y' ≡ y)
+    unfolding loaded_by
     read_refused q =
-        let k : read_number rows b s x y w ≢ 0 = λ z. q (read_number_lem ∙ z) in
+        let k : read_number rows b s x y w ≢ 0 = λ z. q (ap number_of d.answer ∙ ap (λ (j : ℕ). number_of (loaded_by j s.p s.n)) z) in
         (d.points ∙ as_lent _ _ x k, d.cells ∙ as_lent _ _ y k)
 
     -- a file that is not refused by itself, read with room, is the mesh that it has
@@ -150,14 +161,14 @@ module _ (rows : List Row) (b : List ℕ) (s : Blocks) (x y w : List ℕ) where
         let lp : 3 * s.p ≡ length P = omega (arith, q.count_points, m.points) in
         let lc : 4 * s.n ≡ length C = omega (arith, q.count_cells, m.cells.whole) in
         record {
-          answer = d.answer ∙ rw k (ap₂ loaded.Done q.count_points q.count_cells);
+          answer = d.answer ∙ rw k (ap₂ done q.count_points q.count_cells);
           points = d.points ∙ rw k (as_new [] _ x) ∙ ap₂ (λ (j : ℕ) (l : List ℕ). front j l x) lp q.points;
           cells = d.cells ∙ rw k (as_new [] _ y) ∙ ap₂ (λ (j : ℕ) (l : List ℕ). front j l y) lc q.cells;
           work = d.work ∙ rw k (as_new (13 ∷ []) _ w) ∙ ap (λ (j : ℕ). zeroed (2 * j) w) q.count_points;
         }
 
   -- and the other way
-  pub read_answered : {p n : ℕ} {x' y' w' : List ℕ} → proper rows ≡ true → Reads rows b s x y w (loaded.Done p n) x' y' w' → Answered rows b s p n x' y'
+  pub read_answered : {p n : ℕ} {x' y' w' : List ℕ} → proper rows ≡ true → Reads rows b s x y w (done p n) x' y' w' → Answered rows b s p n x' y'
   unfolding number_rows proper
   read_answered {p} {n} {x'} {y'} h d =
       let a = loaded_done (read_number rows b s x y w) s.p s.n (sym d.answer) in

@@ -1,57 +1,65 @@
 // What the steps of every file format share: the outcome of a reader, and what it does behind the refusals by the file alone.
 #![tactic(auto)]
 
-ghost use Rattle.std.specs.Prelude.{◌≡◌, [], ◌≤◌};
+ghost use Rattle.std.specs.Prelude.{◌≡◌, [], ◌≤◌, eqb};
 ghost use Rattle.refusals.specs.Rows.{first};
+ghost use Rattle.refusals.specs.Refusals.{number_in};
 ghost use Rattle.mesh.specs.Mesh.{most};
 ghost use Rattle.file_components.specs.Parts.{CellsStand};
 ghost use Rattle.file_steps.specs.Reader.{content_rows, table_rows, Reads};
 ghost use Rattle.file_steps.specs.Parts.{Loadable};
+ghost use Rattle.file_steps.specs.declared.LoadError.TheVariants.{Refused};
 
 use file_components::Blocks;
+use refusals::Refusal;
 
-// The outcome of a reader: points and cells read; refused, with its number; no room for so many points and cells.
-#[derive(Clone, Copy)]
-pub enum Loaded {
-    Done(u64, u64),
-    Refused(u32),
+// What a reader has read: so many points and cells.
+#[derive(Clone, Copy, Debug, PartialEq, Eq)]
+pub struct Loaded {
+    pub points: u64,
+    pub cells: u64,
+}
+
+// Why a reader reads nothing: refused; no room for so many points and cells.
+#[derive(Clone, Copy, Debug, PartialEq, Eq)]
+pub enum LoadError {
+    Refused(Refusal),
     Short(u64, u64),
 }
 
-// The number that a file is refused with for the mesh that it has: 4, 8, or 0.
-pub fn judge_content(file: &[u8], s: Blocks) -> u32
+impl From<Refusal> for LoadError {
+    ghost from_gives = { λ why r. r ≡ Refused why };
+
+    fn from(why: Refusal) -> LoadError {
+        LoadError::Refused(why)
+    }
+}
+
+// What a file is refused with for the mesh that it has: 4, 8, or nothing.
+pub fn judge_content(file: &[u8], s: Blocks) -> Result<(), Refusal>
     requires { CellsStand file.now s }
-    ensures { result ≡ first (content_rows file.now s) }
+    ensures { number_in result ≡ first (content_rows file.now s) }
 {
     let p = s.p;
     let n = s.n;
     if mesh::MOST < p {
-        return 4;
+        return Err(Refusal::TooLarge);
     }
     if mesh::MOST < n {
-        return 4;
+        return Err(Refusal::TooLarge);
     }
     if !words::cells_below(file, s.cells, s.stride, s.big, n, p as u32) {
-        return 8;
+        return Err(Refusal::Point);
     }
-    0
+    Ok(())
 }
 
-// The number that tables of these lengths are refused with for p points and n cells: 9, or 0.
-fn judge_room(points: usize, cells: usize, work: usize, p: usize, n: usize) -> u32
+// Whether tables of these lengths have room for p points and n cells.
+fn has_room(points: usize, cells: usize, work: usize, p: usize, n: usize) -> bool
     requires { p ≤ most }
-    ensures { result ≡ first (table_rows points cells work p n) }
+    ensures { result ≡ eqb (first (table_rows points cells work p n)) 0 }
 {
-    if points / 3 < p {
-        return 9;
-    }
-    if cells / 4 < n {
-        return 9;
-    }
-    if work < 2 * p {
-        return 9;
-    }
-    0
+    p <= points / 3 && n <= cells / 4 && 2 * p <= work
 }
 
 // Reads the mesh of a file that is not refused by itself. Refused with 9 where a table has no room for the points and cells, which it then
@@ -63,22 +71,25 @@ pub fn load(
     points: &mut [u32],
     cells: &mut [u32],
     work: &mut [u32],
-) -> Loaded
+) -> Result<Loaded, LoadError>
     requires { Loadable file.now s }
     ensures { Reads [] file.now s points.old cells.old work.old result points.new cells.new work.new }
 {
     let p = s.p;
     let n = s.n;
-    if judge_room(points.len(), cells.len(), work.len(), p, n) != 0 {
-        return Loaded::Short(p as u64, n as u64);
+    if !has_room(points.len(), cells.len(), work.len(), p, n) {
+        return Err(LoadError::Short(p as u64, n as u64));
     }
     let need = 2 * p;
     if !file_components::numbers_right(file, s, &mut work[..need]) {
-        return Loaded::Refused(13);
+        return Err(LoadError::Refused(Refusal::Numbers));
     }
     let numbers = 3 * p;
     let vertices = 4 * n;
     words::get_words(file, s.points, s.big, &mut points[..numbers]);
     words::get_cells(file, s.cells, s.stride, s.big, n, &mut cells[..vertices]);
-    Loaded::Done(p as u64, n as u64)
+    Ok(Loaded {
+        points: p as u64,
+        cells: n as u64,
+    })
 }
