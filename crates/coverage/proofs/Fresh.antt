@@ -11,6 +11,7 @@ use borrow.Author.Tests.{lt-ltb}
 use lib.Ieee.{Float}
 use lib.ListN.{length, get_or, take}
 use lib.Seq.{get_or-take, length-take-le}
+use Rattle.std.specs.Prelude.{Result, Ok}
 use Rattle.lists.specs.Runs.{sums}
 use Rattle.lists.specs.Tables.{all_below, all_at_most}
 use Rattle.lists.proofs.Cases.{eq_or}
@@ -35,8 +36,8 @@ use Rattle.tiling.proofs.Theorems.{whole, octree_covers, lattice_covers}
 use Rattle.tiling.proofs.Handed.{few_cells, few_vertices, low_vertices}
 use Rattle.coverage.specs.Step.{kept_at, gained, plus, grown, fits, table_rows, number_of, totals_of, CoverageDone}
 use Rattle.coverage.specs.Many.{nothing}
-use Rattle.coverage.specs.declared.Covered.{Covered}
-use Rattle.coverage.specs.declared.Covered.TheVariants.{Added}
+use Rattle.coverage.specs.declared.Totals.{Totals}
+use Rattle.coverage.specs.declared.Uncovered.{Uncovered}
 use Rattle.coverage.proofs.WaysOut.{tables_clear}
 use Rattle.coverage.proofs.Theorems.{part_le, kept_le, marks_le, accepts, coverage_one}
 
@@ -128,20 +129,20 @@ module _ {b : Bounds} {c : Float} {levels : ℕ} {s C T P w : List ℕ} {r : Gri
       refl
 
   -- it is answered
-  answers : CoverageDone nothing (take (3 * v) T') (take (4 * n) C') M (Added (grown nothing (take (3 * v) T') (take (4 * n) C') M))
+  answers : CoverageDone nothing (take (3 * v) T') (take (4 * n) C') M (Ok (grown nothing (take (3 * v) T') (take (4 * n) C') M))
   answers = accepts nothing (record { triples = triples; cells = cells; marks = M }) (record { tables = clear; fit = fitting; totals = refl })
 
-  module _ {a : Covered} (d : CoverageDone nothing (take (3 * v) T') (take (4 * n) C') M a) where
-    same : a ≡ Added (grown nothing (take (3 * v) T') (take (4 * n) C') M)
+  module _ {a : Result Totals Uncovered} (d : CoverageDone nothing (take (3 * v) T') (take (4 * n) C') M a) where
+    same : a ≡ Ok (grown nothing (take (3 * v) T') (take (4 * n) C') M)
     same = coverage_one nothing triples cells M _ _ d answers
 
     pub fresh_answered : (number_of a ≡ 0) × ((totals_of a).cells ≡ n)
     unfolding plus gained
-    fresh_answered = (ap number_of same, ap (λ (x : Covered). (totals_of x).cells) same ∙ omega (arith, cells_long))
+    fresh_answered = (ap number_of same, ap (λ (x : Result Totals Uncovered). (totals_of x).cells) same ∙ omega (arith, cells_long))
 
     total : (totals_of a).sixfold_all ≡ table_six T' C' n
     unfolding plus gained
-    total = ap (λ (x : Covered). (totals_of x).sixfold_all) same ∙ omega (arith, six_same)
+    total = ap (λ (x : Result Totals Uncovered). (totals_of x).sixfold_all) same ∙ omega (arith, six_same)
 
     -- levels 1 to 5
     pub fresh_octree : 1 ≤ levels → (totals_of a).sixfold_all ≡ 6 * box_of p

@@ -1,17 +1,13 @@
 -- What the machine holds of a signed number that is not too large: the number itself. Assumes nothing.
-use mathlib.Core.Path.{◌≡◌, refl, sym, ap, ap₂, ◌∙◌, subst}
-use mathlib.Core.Bool.{true, false, true≢false}
+use mathlib.Core.Path.{◌≡◌, sym, ap, ap₂, ◌∙◌, subst}
 use Prim.Native.Nat.{ℕ, ◌+◌, ◌*◌, ◌^◌, ◌≤◌, ◌<◌}
-use native.Mathlib.Nat.{mul-le-mul, not-suc-le-zero}
+use native.Mathlib.Nat.{mul-le-mul}
 use native.Mathlib.Omega.{arith}
-use borrow.Author.Tests.{ltb-true}
-use lib.Dec.{T}
-use lib.IntN.{ℤ, pos, negsuc, neg_ℤ, nat_abs, ◌+ℤ◌, ◌-ℤ◌, ◌*ℤ◌, +ℤ_idl}
-use lib.Signed.{lt_z, non_neg}
+use lib.IntN.{ℤ, pos, negsuc, nat_abs, ◌+ℤ◌, ◌-ℤ◌, ◌*ℤ◌}
 use mir.Syntax.{w64}
-use mir.Val.{Fits, SFits, to_z, of_z}
+use mir.Val.{SFits, to_z, of_z}
 use mir.ValLaws.{to_z-of_z}
-use Rattle.tiling.proofs.Signed.{abs_mul, abs_plus, abs_minus, abs_neg}
+use Rattle.tiling.proofs.Signed.{abs_mul, abs_plus, abs_minus}
 use Rattle.coverage.specs.Parts.{Small, Held}
 
 -- read back from its bits
@@ -68,34 +64,3 @@ minor_held {m} {n} {a} {b} {c} {d} {r} k l p q s t h =
     ap₂ (λ (u v : ℤ). u -ℤ v) (ap₂ (λ (u v : ℤ). u *ℤ v) (held k p).same (held k q).same) (ap₂ (λ (u v : ℤ). u *ℤ v) (held k s).same (held k t).same)
     in
     subst (λ (x : ℤ). Held n x (back r)) e (again l h)
-
--- ---- the absolute value
-
-below_zero : (x : ℤ) → lt_z x (pos 0) ≡ true → non_neg (pos 0 -ℤ x) ≡ true
-below_zero (pos n) e = absurd (not-suc-le-zero (ltb-true n 0 e))
-below_zero (negsuc n) e = refl
-
-from_zero : (x : ℤ) → lt_z x (pos 0) ≡ false → non_neg x ≡ true
-from_zero (pos n) e = refl
-from_zero (negsuc n) e = absurd (true≢false e)
-
-module _ {m : ℕ} {x : ℤ} (k : m < 2 ^ 63) (h : Small m x) where
-  none : Held 0 (pos 0) (pos 0)
-  none = record { same = refl; size = omega arith }
-
-  pub negated_fits : SFits w64 (pos 0 -ℤ back x)
-  negated_fits = minus_fits none (held k h) (omega arith)
-
-  negated : back (pos 0 -ℤ back x) ≡ pos 0 -ℤ x
-  negated = (minus_held none (held k h) (omega arith)).same
-
-  pub negated_abs : nat_abs (back (pos 0 -ℤ back x)) ≡ nat_abs x
-  negated_abs = ap nat_abs (negated ∙ +ℤ_idl (neg_ℤ x)) ∙ abs_neg x
-
-  pub negated_cast : lt_z (back x) (pos 0) ≡ true → T (non_neg (back (pos 0 -ℤ back x))) × Fits w64 (nat_abs (back (pos 0 -ℤ back x)))
-  negated_cast t =
-      (subst T (sym (ap non_neg negated ∙ below_zero x (ap (λ (z : ℤ). lt_z z (pos 0)) (sym (held k h).same) ∙ t))) tt, record { fits = omega (arith, negated_abs, h.small) })
-
-  pub positive_cast : lt_z (back x) (pos 0) ≡ false → T (non_neg (back x)) × Fits w64 (nat_abs (back x))
-  positive_cast t =
-      (subst T (sym (from_zero (back x) t)) tt, record { fits = omega (arith, ap nat_abs (held k h).same, h.small) })

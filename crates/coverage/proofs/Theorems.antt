@@ -8,6 +8,7 @@ use native.Mathlib.Omega.{arith}
 use borrow.Author.Tests.{lt-ltb, ne_eqb, not-false}
 use lib.Dec.{eqb}
 use lib.ListN.{length, get_or}
+use Rattle.std.specs.Prelude.{Result, Ok}
 use Rattle.lists.specs.Tests.{bit}
 use Rattle.sorting.specs.Entries.{many}
 use Rattle.sorting.specs.Numbers.{hit, cnt}
@@ -15,17 +16,18 @@ use Rattle.lists.specs.Runs.{sums}
 use Rattle.lists.specs.Tables.{Determined, all_below}
 use Rattle.lists.proofs.Cases.{eq_or}
 use Rattle.lists.proofs.Lent.{determined, below_at}
-use Rattle.refusals.specs.Rows.{first, unless, proper, rising, caused, lower, cause_at, InTurn}
+use Rattle.refusals.specs.Rows.{first, proper, rising, caused, lower, cause_at, InTurn}
 use Rattle.refusals.proofs.Rows.{in_turn, exactly, none_given, clear, unless_none, unless_some, front_clear, goes_on}
+use Rattle.refusals.specs.Refusals.{as_refusal, named}
+use Rattle.refusals.proofs.Refusals.{named_alone}
 use Rattle.mesh.specs.Mesh.{cells_of}
 use Rattle.refusals.specs.Causes.{each_rows, work_rows}
 use Rattle.mesh.specs.Judged.{count_rows, whole_rows, size_rows, name_rows}
 use Rattle.tiling.specs.Tables.{six_at}
-use Rattle.coverage.specs.Step.{kept_at, gained, plus, grown, values, fits, mark_rows, coordinate_rows, total_rows, table_rows, coverage_rows, number_of, totals_of, CoverageDone}
+use Rattle.coverage.specs.Step.{kept_at, gained, plus, grown, values, fits, mark_rows, coordinate_rows, total_rows, table_rows, coverage_rows, number_of, totals_of, refused, CoverageDone}
 use Rattle.coverage.specs.Many.{Sensible, Specimen, gained_by, Calls, none, then, sum_of, nothing, Reordered, same, swapped, after, twice}
 use Rattle.coverage.specs.declared.Totals.{Totals}
-use Rattle.coverage.specs.declared.Covered.{Covered}
-use Rattle.coverage.specs.declared.Covered.TheVariants.{Added, Refused}
+use Rattle.coverage.specs.declared.Uncovered.{Uncovered}
 use Rattle.coverage.proofs.WaysOut.{tables_proper, tables_taken, answered, taken}
 
 -- totals are their five numbers
@@ -43,13 +45,13 @@ module _ (t : Totals) (T C M : List ℕ) where
   unfolding proper table_rows total_rows size_rows count_rows whole_rows work_rows each_rows mark_rows name_rows coordinate_rows
   rows_proper = refl
 
-  module _ {r : Covered} (d : CoverageDone t T C M r) where
+  rows_named : named (coverage_rows t T C M) ≡ true
+  unfolding named as_refusal table_rows total_rows size_rows count_rows whole_rows work_rows each_rows mark_rows name_rows coordinate_rows
+  rows_named = refl
+
+  module _ {r : Result Totals Uncovered} (d : CoverageDone t T C M r) where
     pub number_first : number_of r ≡ first (coverage_rows t T C M)
-    number_first = ap number_of d.answer ∙ go (first (coverage_rows t T C M))
-      where
-        go : (n : ℕ) → number_of (unless n (λ k. Refused k t) (Added (grown t T C M))) ≡ n
-        go zero = unfold unless in refl
-        go (suc n) = unfold unless in refl
+    number_first = ap number_of d.answer ∙ named_alone number_of (refused t) (Ok (grown t T C M)) (coverage_rows t T C M) rows_named (λ k. refl) refl
 
     -- a number is given exactly when some row of this number has its cause and no row before it has one
     pub refused_in_turn : (k : ℕ) → 0 < k → (number_of r ≡ k) ↔ InTurn k (coverage_rows t T C M)
@@ -65,10 +67,10 @@ module _ (t : Totals) (T C M : List ℕ) where
 
     -- the totals: on an answer those handed in and what the grid adds, on any refusal as they were
     pub totals_grown : number_of r ≡ 0 → totals_of r ≡ grown t T C M
-    totals_grown z = ap totals_of (d.answer ∙ unless_none (first (coverage_rows t T C M)) (λ k. Refused k t) (Added (grown t T C M)) (sym number_first ∙ z))
+    totals_grown z = ap totals_of (d.answer ∙ unless_none (first (coverage_rows t T C M)) (refused t) (Ok (grown t T C M)) (sym number_first ∙ z))
 
     pub totals_stay : number_of r ≢ 0 → totals_of r ≡ t
-    totals_stay n = ap totals_of (d.answer ∙ unless_some (first (coverage_rows t T C M)) (λ k. Refused k t) (Added (grown t T C M)) (λ z. n (number_first ∙ z)))
+    totals_stay n = ap totals_of (d.answer ∙ unless_some (first (coverage_rows t T C M)) (refused t) (Ok (grown t T C M)) (λ z. n (number_first ∙ z)))
 
 -- ---- parts are at most the whole
 
@@ -102,7 +104,7 @@ marks_le [] = omega arith
 marks_le (m ∷ M) = omega (arith, one_kind m, marks_le M)
 
 -- where it was so before
-pub stays_sensible : {t : Totals} {T C M : List ℕ} {r : Covered} → CoverageDone t T C M r → Sensible t → Sensible (totals_of r)
+pub stays_sensible : {t : Totals} {T C M : List ℕ} {r : Result Totals Uncovered} → CoverageDone t T C M r → Sensible t → Sensible (totals_of r)
 unfolding plus gained
 stays_sensible {t} {T} {C} {M} {r} d s = go (eq_or (number_of r) 0)
   where
@@ -166,7 +168,7 @@ module _ (t : Totals) (g : Specimen) where
   abbrev M : List ℕ
   M = g.marks
 
-  accepted : {u : Totals} → CoverageDone t g.triples g.cells g.marks (Added u) → Accepted t g u
+  accepted : {u : Totals} → CoverageDone t g.triples g.cells g.marks (Ok u) → Accepted t g u
   accepted {u} d =
       let z : first (coverage_rows t T C M) ≡ 0 = sym (number_first t T C M d) in
       let a = front_clear (table_rows T C M) (total_rows (grown t T C M)) z in
@@ -176,9 +178,9 @@ module _ (t : Totals) (g : Specimen) where
         totals = totals_grown t T C M d refl;
       }
 
-  pub accepts : {u : Totals} → Accepted t g u → CoverageDone t g.triples g.cells g.marks (Added u)
+  pub accepts : {u : Totals} → Accepted t g u → CoverageDone t g.triples g.cells g.marks (Ok u)
   accepts {u} a =
-      subst (λ (v : Totals). CoverageDone t T C M (Added v)) (sym a.totals) (taken t T C M a.tables (answered t (grown t T C M) a.fit))
+      subst (λ (v : Totals). CoverageDone t T C M (Ok v)) (sym a.totals) (taken t T C M a.tables (answered t (grown t T C M) a.fit))
 
 -- the totals are those handed in and the sum over the grids
 pub calls_sum : {t v : Totals} {gs : List Specimen} → Calls t gs v → v ≡ plus t (sum_of gs)

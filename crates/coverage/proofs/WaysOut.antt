@@ -1,6 +1,6 @@
 -- The outcomes of the step. Assumes nothing.
 use mathlib.Core.Path.{◌≡◌, refl, sym, ap, ◌∙◌}
-use mathlib.Core.Logic.{◌⊎◌, inl, inr, ◌≢◌}
+use mathlib.Core.Logic.{◌⊎◌, inl, inr}
 use mathlib.Core.Bool.{Bool, true, false}
 use mathlib.Core.List.{List}
 use Prim.Native.Nat.{ℕ, ◌+◌, ◌*◌, ◌/◌, ◌%◌, ◌^◌, ◌≤◌, ◌<◌}
@@ -8,13 +8,18 @@ use native.Mathlib.Omega.{arith}
 use borrow.Author.Tests.{lt-ltb, le-ltb, eq-eqb, eqb-true, not-false}
 use lib.Dec.{eqb}
 use lib.ListN.{length, get_or}
+use Rattle.std.specs.Prelude.{Some, None, Result, Ok, Err}
 use Rattle.sorting.specs.Numbers.{cnt}
 use Rattle.lists.specs.Runs.{sums}
 use Rattle.lists.specs.Tables.{all_below, all_at_most}
 use Rattle.lists.proofs.Bools.{clash}
 use Rattle.lists.proofs.Lent.{below_at}
 use Rattle.refusals.specs.Rows.{first, proper, unless, cause_at}
-use Rattle.refusals.proofs.Rows.{clear, goes_on, unless_some, stops}
+use Rattle.refusals.specs.Refusals.{as_number, as_refusal}
+use Rattle.refusals.specs.declared.Refusal.{Refusal}
+use Rattle.refusals.specs.declared.Refusal.TheVariants.{Range}
+use Rattle.refusals.proofs.Rows.{clear, goes_on, stops}
+use Rattle.refusals.proofs.Refusals.{above_none, handed_up}
 use Rattle.mesh.specs.Mesh.{most, cells_of}
 use Rattle.refusals.specs.Causes.{each_rows, work_rows}
 use Rattle.mesh.specs.Judged.{count_rows, whole_rows, size_rows, name_rows}
@@ -22,12 +27,8 @@ use Rattle.tiling.specs.Tables.{six_at}
 use Rattle.coverage.specs.Step.{kept_at, gained, plus, grown, values, fits, mark_rows, coordinate_rows, total_rows, table_rows, coverage_rows, answer_of, CoverageDone}
 use Rattle.coverage.specs.Parts.{TablesTaken, fits64, sums_of, with_counts, counted_of, added_of}
 use Rattle.coverage.specs.declared.Totals.{Totals}
-use Rattle.coverage.specs.declared.Covered.{Covered}
-use Rattle.coverage.specs.declared.Covered.TheVariants.{Added, Refused}
-use Rattle.coverage.specs.declared.Counted.{Counted}
-use Rattle.coverage.specs.declared.Counted.TheVariants as counted
-use Rattle.coverage.specs.declared.Summed.{Summed}
-use Rattle.coverage.specs.declared.Summed.TheVariants.{Fits, Over}
+use Rattle.coverage.specs.declared.Uncovered.{Uncovered}
+use Rattle.coverage.specs.declared.Sums.{Sums}
 use Rattle.coverage.proofs.Summing.{no_counts, the_counts, no_sums, the_sums}
 
 -- ---- tables that are not refused
@@ -67,61 +68,64 @@ not_below l i h e = go (all_below (2 ^ 64) l) refl
     go true q = clash (lt-ltb (get_or l i 0) (2 ^ 64) (below_at (2 ^ 64) l q i h)) e
     go false q = refl
 
+-- refused for this, with the totals that were handed in
+abbrev handed_back : Totals → Refusal → Result Totals Uncovered
+handed_back t why = Err (record { why = why; totals = t })
+
 module _ (t u : Totals) where
-  refused_16 : fits u ≡ false → Refused 16 t ≡ answer_of (total_rows u) t u
-  unfolding total_rows first unless
+  refused_16 : fits u ≡ false → handed_back t Range ≡ answer_of (total_rows u) t u
+  unfolding total_rows first unless as_refusal
   refused_16 e = rw e refl
 
-  pub answered : fits u ≡ true → Added u ≡ answer_of (total_rows u) t u
+  pub answered : fits u ≡ true → Ok u ≡ answer_of (total_rows u) t u
   unfolding total_rows first unless
   answered e = rw e refl
 
 module _ (t : Totals) (T C M : List ℕ) where
-  over : (i : ℕ) → i < 5 → fits64 (get_or (values (grown t T C M)) i 0) ≡ false → Refused 16 t ≡ added_of t T C M
+  over : (i : ℕ) → i < 5 → fits64 (get_or (values (grown t T C M)) i 0) ≡ false → handed_back t Range ≡ added_of t T C M
   unfolding fits
   over i h e = refused_16 t (grown t T C M) (not_below (values (grown t T C M)) i h e)
 
   -- the marks are as many as the cells
   module _ (m : length M ≡ cells_of C) where
-    pub over_counts : {s : Counted} → s ≡ counted_of t M → s ≡ counted.Over → Refused 16 t ≡ added_of t T C M
+    pub over_counts : None ≡ counted_of t M → handed_back t Range ≡ added_of t T C M
     unfolding plus gained
-    over_counts e f = go (no_counts t M (sym e ∙ f))
+    over_counts e = go (no_counts t M (sym e))
       where
-        go : (fits64 (t.cells + length M) ≡ false) ⊎ ((fits64 (t.kept + cnt 1 M) ≡ false) ⊎ (fits64 (t.dropped + cnt 2 M) ≡ false)) → Refused 16 t ≡ added_of t T C M
+        go : (fits64 (t.cells + length M) ≡ false) ⊎ ((fits64 (t.kept + cnt 1 M) ≡ false) ⊎ (fits64 (t.dropped + cnt 2 M) ≡ false)) → handed_back t Range ≡ added_of t T C M
         go (inl p) = over 0 (omega arith) (rw m at p)
         go (inr (inl p)) = over 1 (omega arith) p
         go (inr (inr p)) = over 2 (omega arith) p
 
-    module _ {s : Counted} {u : Totals} (ec : s ≡ counted_of t M) (fc : s ≡ counted.Fits u) where
-      abbrev summed : Summed
-      summed = sums_of (u.sixfold_kept + sums (cells_of C) (kept_at T C M) 0) (u.sixfold_all + sums (cells_of C) (six_at T C) 0)
-
+    module _ {u : Totals} (ec : Some u ≡ counted_of t M) where
       counts : (u ≡ with_counts t M) × (fits64 (t.cells + length M) ≡ true) × (fits64 (t.kept + cnt 1 M) ≡ true) × (fits64 (t.dropped + cnt 2 M) ≡ true)
-      counts = the_counts t M (sym ec ∙ fc)
+      counts = the_counts t M (sym ec)
 
-      pub over_sums : {z : Summed} → z ≡ sums_of (u.sixfold_kept + sums (cells_of C) (kept_at T C M) 0) (u.sixfold_all + sums (cells_of C) (six_at T C) 0) → z ≡ Over
-          → Refused 16 t ≡ added_of t T C M
+      pub over_sums : None ≡ sums_of (u.sixfold_kept + sums (cells_of C) (kept_at T C M) 0) (u.sixfold_all + sums (cells_of C) (six_at T C) 0)
+          → handed_back t Range ≡ added_of t T C M
       unfolding plus gained
-      over_sums e f = go (no_sums _ _ (sym e ∙ f))
+      over_sums e = go (no_sums _ _ (sym e))
         where
-          go : (fits64 (u.sixfold_kept + sums (cells_of C) (kept_at T C M) 0) ≡ false) ⊎ (fits64 (u.sixfold_all + sums (cells_of C) (six_at T C) 0) ≡ false) → Refused 16 t ≡ added_of t T C M
+          go : (fits64 (u.sixfold_kept + sums (cells_of C) (kept_at T C M) 0) ≡ false) ⊎ (fits64 (u.sixfold_all + sums (cells_of C) (six_at T C) 0) ≡ false) → handed_back t Range ≡ added_of t T C M
           go (inl p) = over 3 (omega arith) (rw counts.0 at p)
           go (inr p) = over 4 (omega arith) (rw counts.0 at p)
 
-      pub all_fit : {z : Summed} {p a : ℕ} → z ≡ sums_of (u.sixfold_kept + sums (cells_of C) (kept_at T C M) 0) (u.sixfold_all + sums (cells_of C) (six_at T C) 0) → z ≡ Fits p a
-          → Added (record { cells = u.cells; kept = u.kept; dropped = u.dropped; sixfold_kept = p; sixfold_all = a }) ≡ added_of t T C M
+      pub all_fit : {z : Sums} → Some z ≡ sums_of (u.sixfold_kept + sums (cells_of C) (kept_at T C M) 0) (u.sixfold_all + sums (cells_of C) (six_at T C) 0)
+          → Ok (record { cells = u.cells; kept = u.kept; dropped = u.dropped; sixfold_kept = z.part; sixfold_all = z.all }) ≡ added_of t T C M
       unfolding plus gained fits all_below
-      all_fit e f =
-          let r = the_sums _ _ (sym e ∙ f) in
+      all_fit e =
+          let r = the_sums _ _ (sym e) in
           let k = counts.0 in
           rw (r.0, r.1, k, m) (answered t (grown t T C M) (rw (rw m at counts.1, counts.2, counts.3, rw k at r.2, rw k at r.3) refl))
 
   -- ---- the step
 
-  pub refused : {number : ℕ} → number ≡ first (table_rows T C M) → number ≢ 0 → CoverageDone t T C M (Refused number t)
-  refused {number} e n =
-      let s : number ≡ first (coverage_rows t T C M) = stops (table_rows T C M) (total_rows (grown t T C M)) e n in
-      record { answer = rw s (sym (unless_some (first (coverage_rows t T C M)) (λ k. Refused k t) (Added (grown t T C M)) (λ z. n (s ∙ z)))) }
+  pub refused : {why : Refusal} → as_number why ≡ first (table_rows T C M) → CoverageDone t T C M (handed_back t why)
+  refused {why} e =
+      let s : as_number why ≡ first (coverage_rows t T C M) = stops (table_rows T C M) (total_rows (grown t T C M)) e (above_none why) in
+      record { answer = sym (handed_up (handed_back t) _ why s) }
 
-  pub taken : {r : Covered} → first (table_rows T C M) ≡ 0 → r ≡ added_of t T C M → CoverageDone t T C M r
-  taken e f = record { answer = f ∙ ap (λ (k : ℕ). unless k (λ number. Refused number t) (Added (grown t T C M))) (sym (goes_on (table_rows T C M) (total_rows (grown t T C M)) (tables_proper T C M) refl e)) }
+  pub taken : {r : Result Totals Uncovered} → first (table_rows T C M) ≡ 0 → r ≡ added_of t T C M → CoverageDone t T C M r
+  taken e f = record {
+    answer = f ∙ ap (λ (k : ℕ). unless k (λ n. handed_back t (as_refusal n)) (Ok (grown t T C M))) (sym (goes_on (table_rows T C M) (total_rows (grown t T C M)) (tables_proper T C M) refl e));
+  }

@@ -1,8 +1,7 @@
 -- Totals that make sense; and any number of grids, one call each, one after the other.
-use Rattle.std.specs.Prelude.{List, [], ◌∷◌, ℕ, ◌+◌, ◌≤◌}
+use Rattle.std.specs.Prelude.{List, [], ◌∷◌, ℕ, ◌+◌, ◌≤◌, Ok}
 use Rattle.coverage.specs.Step.{gained, plus, CoverageDone}
 use Rattle.coverage.specs.declared.Totals.{Totals}
-use Rattle.coverage.specs.declared.Covered.TheVariants.{Added}
 
 -- totals that make sense: the cells kept or dropped are some of all, and the volume of those kept is some of that of all
 pub record Sensible (t : Totals) : Type 0 where
@@ -21,7 +20,7 @@ gained_by g = gained g.triples g.cells g.marks
 -- what the contract of add_coverage says of calls that are all answered, from the totals t on
 pub data Calls : Totals → List Specimen → Totals → Type 0 where
   none : {t : Totals} → Calls t [] t
-  then : {t u v : Totals} {g : Specimen} {gs : List Specimen} → CoverageDone t g.triples g.cells g.marks (Added u) → Calls u gs v → Calls t (g ∷ gs) v
+  then : {t u v : Totals} {g : Specimen} {gs : List Specimen} → CoverageDone t g.triples g.cells g.marks (Ok u) → Calls u gs v → Calls t (g ∷ gs) v
 
 -- the sum over the grids
 abbrev pub nothing : Totals

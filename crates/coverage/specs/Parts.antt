@@ -1,5 +1,5 @@
 -- What the parts of the code ask and give. T is the table of triples, C that of cells.
-use Rattle.std.specs.Prelude.{◌≡◌, Bool, cond, ◌&&◌, List, ℕ, ◌+◌, ◌*◌, ◌^◌, ◌≤◌, ◌<◌, ltb, ℤ, nat_abs, length, get_or}
+use Rattle.std.specs.Prelude.{◌≡◌, Bool, cond, ◌&&◌, List, ℕ, ◌+◌, ◌*◌, ◌^◌, ◌≤◌, ◌<◌, ltb, ℤ, nat_abs, length, get_or, Option, Some, None, Result}
 use Rattle.space.specs.Space.{ax, ay, az}
 use Rattle.sorting.specs.Numbers.{cnt}
 use Rattle.mesh.specs.Mesh.{cells_of}
@@ -7,11 +7,8 @@ use Rattle.tiling.specs.Volume as volume
 use Rattle.coverage.specs.Step.{grown, total_rows, answer_of}
 use Rattle.coverage.specs.declared.Vector.{Vector}
 use Rattle.coverage.specs.declared.Totals.{Totals}
-use Rattle.coverage.specs.declared.Covered.{Covered}
-use Rattle.coverage.specs.declared.Counted.{Counted}
-use Rattle.coverage.specs.declared.Counted.TheVariants as counted
-use Rattle.coverage.specs.declared.Summed.{Summed}
-use Rattle.coverage.specs.declared.Summed.TheVariants.{Fits, Over}
+use Rattle.coverage.specs.declared.Uncovered.{Uncovered}
+use Rattle.coverage.specs.declared.Sums.{Sums}
 
 -- at most m, whatever the sign
 pub record Small (m : ℕ) (x : ℤ) : Type 0 where
@@ -66,8 +63,8 @@ abbrev pub fits64 : ℕ → Bool
 fits64 n = ltb n (2 ^ 64)
 
 -- two sums, where both do
-unfoldable pub sums_of : ℕ → ℕ → Summed
-sums_of part all = cond (fits64 part && fits64 all) (Fits part all) Over
+unfoldable pub sums_of : ℕ → ℕ → Option Sums
+sums_of part all = cond (fits64 part && fits64 all) (Some (record { part = part; all = all })) None
 
 -- the totals with the cells of M counted, where those fit
 abbrev pub with_counts : Totals → List ℕ → Totals
@@ -79,10 +76,10 @@ with_counts t M = record {
   sixfold_all = t.sixfold_all;
 }
 
-unfoldable pub counted_of : Totals → List ℕ → Counted
+unfoldable pub counted_of : Totals → List ℕ → Option Totals
 counted_of t M =
-    cond (fits64 (t.cells + length M) && (fits64 (t.kept + cnt 1 M) && fits64 (t.dropped + cnt 2 M))) (counted.Fits (with_counts t M)) counted.Over
+    cond (fits64 (t.cells + length M) && (fits64 (t.kept + cnt 1 M) && fits64 (t.dropped + cnt 2 M))) (Some (with_counts t M)) None
 
 -- the answer for tables that are not refused
-abbrev pub added_of : Totals → List ℕ → List ℕ → List ℕ → Covered
+abbrev pub added_of : Totals → List ℕ → List ℕ → List ℕ → Result Totals Uncovered
 added_of t T C M = answer_of (total_rows (grown t T C M)) t (grown t T C M)

@@ -1,17 +1,17 @@
 -- The step add_coverage (rules R3.1 to R3.4): what is refused and why, and what is answered. t are the totals handed in; T is the table of triples, C that
 -- of cells, and M that of marks: 0 for a cell that is not marked, 1 for one kept or exchanged, 2 for one dropped.
-use Rattle.std.specs.Prelude.{◌≡◌, Bool, cond, not, List, [], ◌∷◌, ◌++◌, ℕ, ◌+◌, ◌/◌, ◌^◌, eqb, length, get_or}
+use Rattle.std.specs.Prelude.{◌≡◌, Bool, cond, not, List, [], ◌∷◌, ◌++◌, ℕ, ◌+◌, ◌/◌, ◌^◌, eqb, length, get_or, Result, Ok, Err}
 use Rattle.sorting.specs.Numbers.{cnt}
 use Rattle.lists.specs.Runs.{sums}
 use Rattle.lists.specs.Tables.{all_below, all_at_most}
 use Rattle.refusals.specs.Rows.{Row, ◌when◌, first, unless}
 use Rattle.refusals.specs.Causes.{each_rows}
+use Rattle.refusals.specs.Refusals.{as_number, as_refusal}
 use Rattle.mesh.specs.Mesh.{cells_of}
 use Rattle.mesh.specs.Judged.{size_rows, name_rows}
 use Rattle.tiling.specs.Tables.{six_at, table_six}
 use Rattle.coverage.specs.declared.Totals.{Totals}
-use Rattle.coverage.specs.declared.Covered.{Covered}
-use Rattle.coverage.specs.declared.Covered.TheVariants.{Added, Refused}
+use Rattle.coverage.specs.declared.Uncovered.{Uncovered}
 
 -- ---- what a grid adds
 
@@ -79,23 +79,27 @@ coverage_rows t T C M = table_rows T C M ++ total_rows (grown t T C M)
 -- ---- the answer
 
 -- its number, and the totals that it carries: on a refusal those handed in
-abbrev pub number_of : Covered → ℕ
-number_of (Added t) = 0
-number_of (Refused number t) = number
+abbrev pub number_of : Result Totals Uncovered → ℕ
+number_of (Ok t) = 0
+number_of (Err e) = as_number e.why
 
-abbrev pub totals_of : Covered → Totals
-totals_of (Added t) = t
-totals_of (Refused number t) = t
+abbrev pub totals_of : Result Totals Uncovered → Totals
+totals_of (Ok t) = t
+totals_of (Err e) = e.totals
 
-abbrev pub values_of : Covered → List ℕ
+abbrev pub values_of : Result Totals Uncovered → List ℕ
 values_of r = values (totals_of r)
 
--- the first refusal, or the totals u
-abbrev pub answer_of : List Row → Totals → Totals → Covered
-answer_of rows t u = unless (first rows) (λ number. Refused number t) (Added u)
+-- a refusal by its number, and the totals that it hands back
+abbrev pub refused : Totals → ℕ → Result Totals Uncovered
+refused t number = Err (record { why = as_refusal number; totals = t })
 
-abbrev pub coverage_of : Totals → List ℕ → List ℕ → List ℕ → Covered
+-- the first refusal, or the totals u
+abbrev pub answer_of : List Row → Totals → Totals → Result Totals Uncovered
+answer_of rows t u = unless (first rows) (refused t) (Ok u)
+
+abbrev pub coverage_of : Totals → List ℕ → List ℕ → List ℕ → Result Totals Uncovered
 coverage_of t T C M = answer_of (coverage_rows t T C M) t (grown t T C M)
 
-pub record CoverageDone (t : Totals) (T C M : List ℕ) (r : Covered) : Type 0 where
+pub record CoverageDone (t : Totals) (T C M : List ℕ) (r : Result Totals Uncovered) : Type 0 where
   pub answer : r ≡ coverage_of t T C M

@@ -1,22 +1,22 @@
 // The step `add_coverage`: the six-fold volumes of a grid's cells, kept and in all, added to the totals over many grids.
 #![tactic(auto)]
 
-ghost use Rattle.std.specs.Prelude.{◌≡◌, cond, ◌+◌, ◌≤◌, eqb, pos, nat_abs, ◌-ℤ◌, ◌*ℤ◌};
+ghost use Rattle.std.specs.Prelude.{◌≡◌, cond, ◌+◌, ◌≤◌, eqb, pos, ◌-ℤ◌, ◌*ℤ◌};
 ghost use Rattle.tiling.specs.Volume.{edge, cross, dot};
 ghost use Rattle.grid.specs.Whole.{three_at};
 ghost use Rattle.tiling.specs.Tables.{six_at};
 ghost use Rattle.lists.specs.Runs.{sums};
 ghost use Rattle.refusals.specs.Rows.{first};
+ghost use Rattle.refusals.specs.Refusals.{number_in};
 ghost use Rattle.mesh.specs.Mesh.{cells_of};
 ghost use Rattle.coverage.specs.Step.{kept_at, table_rows, CoverageDone};
-ghost use Rattle.coverage.specs.Parts.{as_vector, Small, Held, Short, VectorHeld, EdgeAsked, CellAsked, TablesTaken, fits64, sums_of, counted_of, added_of};
+ghost use Rattle.coverage.specs.Parts.{as_vector, Small, Held, Short, VectorHeld, EdgeAsked, CellAsked, TablesTaken, sums_of, counted_of, added_of};
 
-// The greatest total.
-const MOST: u64 = 18_446_744_073_709_551_615;
+use refusals::Refusal;
 
 // Cells, those kept, those dropped, and six times the volume of those kept and of all.
 #[repr(C)]
-#[derive(Clone, Copy)]
+#[derive(Clone, Copy, Debug, PartialEq, Eq)]
 pub struct Totals {
     pub cells: u64,
     pub kept: u64,
@@ -25,25 +25,18 @@ pub struct Totals {
     pub sixfold_all: u64,
 }
 
-// The outcome: the new totals; refused, with its number and the totals as they were.
-#[derive(Clone, Copy)]
-pub enum Covered {
-    Added(Totals),
-    Refused(u32, Totals),
+// Why a grid is not added, and the totals as they were.
+#[derive(Clone, Copy, Debug, PartialEq, Eq)]
+pub struct Uncovered {
+    pub why: Refusal,
+    pub totals: Totals,
 }
 
-// Totals with the cells counted, or that one of them does not fit.
+// The six-fold volumes of the cells kept, and of all.
 #[derive(Clone, Copy)]
-enum Counted {
-    Fits(Totals),
-    Over,
-}
-
-// Two sums, or that one of them does not fit.
-#[derive(Clone, Copy)]
-enum Summed {
-    Fits(u64, u64),
-    Over,
+struct Sums {
+    part: u64,
+    all: u64,
 }
 
 // A vector by its signed numbers.
@@ -104,13 +97,6 @@ fn dot(u: Vector, v: Vector) -> i64
     u.x * v.x + u.y * v.y + u.z * v.z
 }
 
-fn size(z: i64) -> u64
-    requires { Small 412316860416 z }
-    ensures { result ≡ nat_abs z }
-{
-    if z < 0 { (0 - z) as u64 } else { z as u64 }
-}
-
 // Six times the volume of the cell i.
 fn sixfold(triples: &[u32], cells: &[u32], i: usize) -> u64
     requires { CellAsked triples.now cells.now i }
@@ -120,14 +106,7 @@ fn sixfold(triples: &[u32], cells: &[u32], i: usize) -> u64
     let u = edge(triples, cell.a, cell.b);
     let v = edge(triples, cell.a, cell.c);
     let w = edge(triples, cell.a, cell.d);
-    size(dot(cross(u, v), w))
-}
-
-// Whether b can be added to a.
-fn has_room(a: u64, b: u64) -> bool
-    ensures { result ≡ fits64 (a + b) }
-{
-    b <= MOST - a
+    dot(cross(u, v), w).unsigned_abs()
 }
 
 // What a cell adds to the volume of those kept.
@@ -137,115 +116,99 @@ fn part_of(mark: u8, six: u64) -> u64
     if mark == 1 { six } else { 0 }
 }
 
-// Adds the six-fold volumes of the cells kept to `part`, and those of all cells to `all`.
-fn sum_cells(part: u64, all: u64, triples: &[u32], cells: &[u32], marks: &[u8]) -> Summed
+// Adds the six-fold volumes of the cells kept to `part`, and those of all cells to `all`, unless one of the sums does not fit.
+fn sum_cells(part: u64, all: u64, triples: &[u32], cells: &[u32], marks: &[u8]) -> Option<Sums>
     requires { TablesTaken triples.now cells.now marks.now }
     ensures { result ≡ sums_of (part + sums (cells_of cells.now) (kept_at triples.now cells.now marks.now) 0) (all + sums (cells_of cells.now) (six_at triples.now cells.now) 0) }
 {
     let mut part = part;
     let mut all = all;
-    let mut i: usize = 0;
-    while i < marks.len() {
+    for (i, mark) in marks.iter().enumerate() {
         let six = sixfold(triples, cells, i);
-        let kept = part_of(marks[i], six);
-        if !has_room(all, six) {
-            return Summed::Over;
-        }
-        if !has_room(part, kept) {
-            return Summed::Over;
-        }
-        all += six;
-        part += kept;
-        i += 1;
+        all = all.checked_add(six)?;
+        part = part.checked_add(part_of(*mark, six))?;
     }
-    Summed::Fits(part, all)
+    Some(Sums { part, all })
 }
 
-// The number that the tables are refused with: 4, 5, 6, 8, 16, or 0.
-fn judge(triples: &[u32], cells: &[u32], marks: &[u8]) -> u32
-    ensures { result ≡ first (table_rows triples.now cells.now marks.now) }
+// What the tables are refused with: 4, 5, 6, 8, 16, or nothing.
+fn judge(triples: &[u32], cells: &[u32], marks: &[u8]) -> Result<(), Refusal>
+    ensures { number_in result ≡ first (table_rows triples.now cells.now marks.now) }
 {
-    let number = mesh::judge_sizes(triples.len(), cells.len(), 0, 0, 0);
-    if number != 0 {
-        return number;
-    }
+    mesh::judge_sizes(triples.len(), cells.len(), 0, 0, 0)?;
     if marks.len() != cells.len() / 4 {
-        return 5;
+        return Err(Refusal::Length);
     }
     if !lists::all_at_most(marks, 2) {
-        return 6;
+        return Err(Refusal::Byte);
     }
-    let named = mesh::judge_names(triples.len(), cells);
-    if named != 0 {
-        return named;
-    }
+    mesh::judge_names(triples.len(), cells)?;
     if !lists::all_below(triples, 4097) {
-        return 16;
+        return Err(Refusal::Range);
     }
-    0
+    Ok(())
 }
 
-// Counts the cells, those kept and those dropped.
-fn add_counts(totals: Totals, marks: &[u8]) -> Counted
+// Counts the cells, those kept and those dropped, unless one of the counts does not fit.
+fn add_counts(totals: Totals, marks: &[u8]) -> Option<Totals>
     ensures { result ≡ counted_of totals marks.now }
 {
-    let many = marks.len() as u64;
-    let kept = marks::count(marks, 1) as u64;
-    let dropped = marks::count(marks, 2) as u64;
-    if !has_room(totals.cells, many) {
-        return Counted::Over;
-    }
-    if !has_room(totals.kept, kept) {
-        return Counted::Over;
-    }
-    if !has_room(totals.dropped, dropped) {
-        return Counted::Over;
-    }
-    Counted::Fits(Totals {
-        cells: totals.cells + many,
-        kept: totals.kept + kept,
-        dropped: totals.dropped + dropped,
-        sixfold_kept: totals.sixfold_kept,
-        sixfold_all: totals.sixfold_all,
+    let cells = totals.cells.checked_add(marks.len() as u64)?;
+    let kept = totals.kept.checked_add(marks::count(marks, 1) as u64)?;
+    let dropped = totals.dropped.checked_add(marks::count(marks, 2) as u64)?;
+    Some(Totals {
+        cells,
+        kept,
+        dropped,
+        ..totals
     })
 }
 
 // Adds a grid whose tables are not refused, unless a total does not fit.
-fn add_cells(totals: Totals, triples: &[u32], cells: &[u32], marks: &[u8]) -> Covered
+fn add_cells(
+    totals: Totals,
+    triples: &[u32],
+    cells: &[u32],
+    marks: &[u8],
+) -> Result<Totals, Uncovered>
     requires { TablesTaken triples.now cells.now marks.now }
     ensures { result ≡ added_of totals triples.now cells.now marks.now }
 {
-    let counts = add_counts(totals, marks);
-    let Counted::Fits(counted) = counts else {
-        return Covered::Refused(16, totals);
+    let over = Uncovered {
+        why: Refusal::Range,
+        totals,
     };
-    let sums = sum_cells(
+    let Some(counted) = add_counts(totals, marks) else {
+        return Err(over);
+    };
+    match sum_cells(
         counted.sixfold_kept,
         counted.sixfold_all,
         triples,
         cells,
         marks,
-    );
-    match sums {
-        Summed::Fits(sixfold_kept, sixfold_all) => Covered::Added(Totals {
-            cells: counted.cells,
-            kept: counted.kept,
-            dropped: counted.dropped,
-            sixfold_kept,
-            sixfold_all,
+    ) {
+        Some(sums) => Ok(Totals {
+            sixfold_kept: sums.part,
+            sixfold_all: sums.all,
+            ..counted
         }),
-        Summed::Over => Covered::Refused(16, totals),
+        None => Err(over),
     }
 }
 
 // Adds a grid to the totals: `triples` are its vertices, three numbers each, `cells` name four of them each, and `marks` has a byte a cell:
 // 0 not marked, 1 kept or exchanged, 2 dropped. Refused with 4, 5, 6, 8 or 16; the totals then come back as they were handed in.
-pub fn add_coverage(totals: Totals, triples: &[u32], cells: &[u32], marks: &[u8]) -> Covered
+pub fn add_coverage(
+    totals: Totals,
+    triples: &[u32],
+    cells: &[u32],
+    marks: &[u8],
+) -> Result<Totals, Uncovered>
     ensures { CoverageDone totals triples.now cells.now marks.now result }
 {
-    let number = judge(triples, cells, marks);
-    if number != 0 {
-        return Covered::Refused(number, totals);
+    if let Err(why) = judge(triples, cells, marks) {
+        return Err(Uncovered { why, totals });
     }
     add_cells(totals, triples, cells, marks)
 }

@@ -1,27 +1,18 @@
-use borrow.Author.Tests.{ltb-true}
-use Rattle.lists.proofs.Tests.{failed, passed}
-use Rattle.coverage.proofs.Summing.{no_cells, no_kept, no_dropped, counts_fit}
+use Rattle.coverage.proofs.Summing.{no_cells, no_kept, no_dropped, counts_fit, room, no_room}
 use Rattle.coverage.proofs.add_counts.Goals as goal
 
-pub returns-then-not-has_room : goal.returns-then-not-has_room
-returns-then-not-has_room c = no_cells _ _ (failed c.has_room.ensures c.if-not-has_room.true)
+pub returns-in_err-cells : goal.returns-in_err-cells
+returns-in_err-cells c = rw c.from_residual.ensures (no_cells _ _ (no_room _ _ c.in_err-cells.ensures))
 
-pub returns-then-not-has_room-2 : goal.returns-then-not-has_room-2
-returns-then-not-has_room-2 c = no_kept _ _ c.count-kept.ensures (failed c.has_room-2.ensures c.if-not-has_room-2.true)
+pub returns-in_err-kept : goal.returns-in_err-kept
+returns-in_err-kept c = rw c.from_residual-in_err-kept.ensures (no_kept _ _ c.count.ensures (no_room _ _ c.in_err-kept.ensures))
 
-pub returns-then-not-has_room-3 : goal.returns-then-not-has_room-3
-returns-then-not-has_room-3 c = no_dropped _ _ c.count-dropped.ensures (failed c.has_room-3.ensures c.if-not-has_room-3.true)
-
-pub overflow_add-result : goal.overflow_add-result
-overflow_add-result c = record { fits = ltb-true _ _ (passed c.has_room.ensures c.if-not-has_room.false) }
-
-pub overflow_add-result-2 : goal.overflow_add-result-2
-overflow_add-result-2 c = record { fits = ltb-true _ _ (passed c.has_room-2.ensures c.if-not-has_room-2.false) }
-
-pub overflow_add-result-3 : goal.overflow_add-result-3
-overflow_add-result-3 c = record { fits = ltb-true _ _ (passed c.has_room-3.ensures c.if-not-has_room-3.false) }
+pub returns-in_err-dropped : goal.returns-in_err-dropped
+returns-in_err-dropped c = rw c.from_residual-in_err-dropped.ensures (no_dropped _ _ c.count-2.ensures (no_room _ _ c.in_err-dropped.ensures))
 
 pub returns : goal.returns
 returns c =
-    counts_fit _ _ c.count-kept.ensures c.count-dropped.ensures (passed c.has_room.ensures c.if-not-has_room.false)
-    (passed c.has_room-2.ensures c.if-not-has_room-2.false) (passed c.has_room-3.ensures c.if-not-has_room-3.false)
+    let n = c.in_ok-cells.ensures in
+    let k = c.in_ok-kept.ensures in
+    let d = c.in_ok-dropped.ensures in
+    rw (n.1, k.1, d.1) (counts_fit _ _ c.count.ensures c.count-2.ensures (room _ _ n.0) (room _ _ k.0) (room _ _ d.0))

@@ -1,5 +1,3 @@
-use native.Mathlib.Omega.{arith}
-use Rattle.coverage.proofs.Held.{again, as_small}
 use Rattle.coverage.proofs.Volumes.{to_b, to_c, to_d, as_short, six_is}
 use Rattle.coverage.proofs.sixfold.Goals as goal
 
@@ -18,8 +16,5 @@ cross-requires c = (as_short c.edge-u.ensures, as_short c.edge-v.ensures)
 pub dot-requires : goal.dot-requires
 dot-requires c = (as_short c.cross.ensures, as_short c.edge-w.ensures)
 
-pub size-requires : goal.size-requires
-size-requires c = as_small (again (omega arith) c.dot.ensures)
-
 pub returns : goal.returns
-returns c = six_is c.requires c.cell_at-cell.ensures c.edge-u.ensures c.edge-v.ensures c.edge-w.ensures c.cross.ensures c.dot.ensures c.size.ensures
+returns c = six_is c.requires c.cell_at-cell.ensures c.edge-u.ensures c.edge-v.ensures c.edge-w.ensures c.cross.ensures c.dot.ensures c.unsigned_abs.ensures.value

@@ -1,4 +1,4 @@
-use Prim.Native.Nat.{◌+◌, ◌-◌, ◌≤◌}
+use Prim.Native.Nat.{◌+◌}
 use Rattle.lists.specs.Runs.{sums}
 use Rattle.mesh.specs.Mesh.{cells_of}
 use Rattle.tiling.specs.Tables.{six_at}
@@ -8,8 +8,5 @@ use Rattle.coverage.proofs.sum_cells.Given as goal
 
 abbrev pub invariant-loop-i : goal.invariant-loop-i
 invariant-loop-i l =
-    (l.i ≤ cells_of l.cells) × Growing (kept_at l.triples l.cells l.marks) (cells_of l.cells) l.i l.part (l.part-2 + sums (cells_of l.cells) (kept_at l.triples l.cells l.marks) 0)
+    Growing (kept_at l.triples l.cells l.marks) (cells_of l.cells) l.i l.part (l.part-2 + sums (cells_of l.cells) (kept_at l.triples l.cells l.marks) 0)
     × Growing (six_at l.triples l.cells) (cells_of l.cells) l.i l.all (l.all-2 + sums (cells_of l.cells) (six_at l.triples l.cells) 0)
-
-abbrev pub decreases-loop-i : goal.decreases-loop-i
-decreases-loop-i l = cells_of l.cells - l.i
