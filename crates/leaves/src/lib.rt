@@ -115,18 +115,17 @@ fn walk_roots(split: &[u8], d: Roots, out: &mut [u64]) -> Tally
 {
     let nx = d.nx;
     let ny = d.ny;
-    let mut left = nx * ny * d.nz;
+    let roots = nx * ny * d.nz;
     let mut tally = Tally {
         leaves: 0,
         cells: 0,
     };
-    while 0 < left {
-        left -= 1;
+    for n in (0..roots).rev() {
         let root = Octant {
             level: d.levels,
-            x: left % nx,
-            y: left / nx % ny,
-            z: left / (nx * ny),
+            x: n % nx,
+            y: n / nx % ny,
+            z: n / (nx * ny),
         };
         tally = walk_octant(split, d, root, out, tally);
     }

@@ -18,14 +18,14 @@ few c =
     let a = mul-le-mul (c.few ax) (c.few ay) in
     record { x = c.some ax; y = c.some ay; xy = a; some = mul-le-mul (c.some ax) (c.some ay); xyz = mul-le-mul a (c.few az) }
 
-pub overflow_mul-left : goal.overflow_mul-left
-overflow_mul-left c = omega (arith, few c.requires.covers.roots)
+pub overflow_mul-roots : goal.overflow_mul-roots
+overflow_mul-roots c = omega (arith, few c.requires.covers.roots)
 
-pub overflow_mul-left-2 : goal.overflow_mul-left-2
-overflow_mul-left-2 c = omega (arith, few c.requires.covers.roots)
+pub overflow_mul-roots-2 : goal.overflow_mul-roots-2
+overflow_mul-roots-2 c = omega (arith, few c.requires.covers.roots)
 
-pub loop-left-init : goal.loop-left-init
-loop-left-init c = going_start _ _ _
+pub loop-n-init : goal.loop-n-init
+loop-n-init c = going_start _ _ _
 
 pub nonzero_rem-root : goal.nonzero_rem-root
 nonzero_rem-root c = omega (arith, few c.requires.covers.roots)
@@ -33,23 +33,23 @@ nonzero_rem-root c = omega (arith, few c.requires.covers.roots)
 pub nonzero_div-root : goal.nonzero_div-root
 nonzero_div-root c = omega (arith, few c.requires.covers.roots)
 
-pub nonzero_rem-root-in-loop-left : goal.nonzero_rem-root-in-loop-left
-nonzero_rem-root-in-loop-left c = omega (arith, few c.requires.covers.roots)
+pub nonzero_rem-root-in-loop-n : goal.nonzero_rem-root-in-loop-n
+nonzero_rem-root-in-loop-n c = omega (arith, few c.requires.covers.roots)
 
 pub overflow_mul-root : goal.overflow_mul-root
 overflow_mul-root c = omega (arith, few c.requires.covers.roots)
 
-pub nonzero_div-root-in-loop-left : goal.nonzero_div-root-in-loop-left
-nonzero_div-root-in-loop-left c = omega (arith, few c.requires.covers.roots)
+pub nonzero_div-root-in-loop-n : goal.nonzero_div-root-in-loop-n
+nonzero_div-root-in-loop-n c = omega (arith, few c.requires.covers.roots)
 
 pub walk_octant-tally-requires : goal.walk_octant-tally-requires
-walk_octant-tally-requires c = record { taken = c.requires; left = going_root _ _ _ _ _ _ c.loop-left.invariant (omega arith) c.requires }
+walk_octant-tally-requires c = record { taken = c.requires; left = going_root _ _ _ _ _ _ c.loop-n.invariant (omega arith) c.requires }
 
-pub loop-left-preserved : goal.loop-left-preserved
-loop-left-preserved c = going_on _ _ _ _ _ _ c.loop-left.invariant (omega arith) c.walk_octant-tally.ensures
+pub loop-n-preserved : goal.loop-n-preserved
+loop-n-preserved c = going_on _ _ _ _ _ _ c.loop-n.invariant (omega arith) c.walk_octant-tally.ensures
 
 pub shape_of-out : goal.shape_of-out
-shape_of-out c = c.loop-left.invariant.same
+shape_of-out c = c.loop-n.invariant.same
 
 pub returns : goal.returns
-returns c = going_done _ _ _ _ _ _ c.loop-left.invariant (omega arith)
+returns c = going_done _ _ _ _ _ _ c.loop-n.invariant (omega arith)

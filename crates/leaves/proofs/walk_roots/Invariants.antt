@@ -1,8 +1,5 @@
 use Rattle.leaves.proofs.Walking.{Going}
 use Rattle.leaves.proofs.walk_roots.Given as goal
 
-abbrev pub invariant-loop-left : goal.invariant-loop-left
-invariant-loop-left l = Going l.split l.d l.initial.out l.out l.left l.tally
-
-abbrev pub decreases-loop-left : goal.decreases-loop-left
-decreases-loop-left l = l.left
+abbrev pub invariant-loop-n : goal.invariant-loop-n
+invariant-loop-n l = Going l.split l.d l.initial.out l.out l.n l.tally
