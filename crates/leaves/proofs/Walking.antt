@@ -1,12 +1,12 @@
 -- The walk over the leaves, turn by turn. Assumes nothing.
 use mathlib.Core.Path.{◌≡◌, refl, sym, ap, ◌∙◌, subst}
 use mathlib.Core.Bool.{Bool, true, false, ◌&&◌}
-use mathlib.Core.List.{List, [], ◌∷◌, ◌++◌}
+use mathlib.Core.List.{List, [], ◌++◌}
 use Prim.Native.Nat.{ℕ, zero, suc, ◌+◌, ◌-◌, ◌*◌, ◌/◌, ◌%◌, ◌^◌, ◌≤◌, ◌<◌}
 use native.Mathlib.Omega.{arith}
 use native.Mathlib.Nat.{mul-le-mul, pow-le-pow_right}
-use lib.ListN.{length, length-append, set}
-use lib.Seq.{sets, set_out, length-sets}
+use lib.ListN.{length, length-append}
+use lib.Seq.{sets, length-sets}
 use Rattle.space.specs.Space.{Axis, ax, ay, az, Pos}
 use Rattle.space.specs.Levels.{size}
 use Rattle.lists.specs.Tests.{bit}
@@ -25,7 +25,7 @@ use Rattle.octree_cells.proofs.Counting.{cells_length, count_at, edges_of}
 use Rattle.octree_cells.proofs.Opened.{root_reached, child_reached, leaf_reached}
 use Rattle.sides.specs.Parts.{Taken, LeafIn, cells_at, cells_in}
 use Rattle.leaves.specs.declared.Tally.{Tally}
-use Rattle.leaves.specs.Parts.{alone, leaf_list, leaves_in, giving, leaves_below, cells_below, leaves_of, cells_of, Left, Counted, nothing, Walked}
+use Rattle.leaves.specs.Parts.{alone, leaf_list, leaves_in, giving, leaves_below, cells_below, leaves_of, cells_of, Left, nothing, Walked}
 use Rattle.leaves.proofs.Lines.{box_line, octant_leaf, octant_split, kids_more, down_none, down_more, leaves_bound, leaves_some, leaves_times}
 
 -- ---- what a walk leaves behind
@@ -49,16 +49,6 @@ walked_as {o} {o₁} {A} {K} {C} {E} {u} {r} e f p = subst (λ (l : List ℕ). W
 
 pub walked_none : (o K : List ℕ) (E : List Cell) (u : Tally) → K ≡ [] → E ≡ [] → Walked o u K E u o
 walked_none o K E u e f = walked_as e f (record { met = omega arith; stored = refl; most = omega arith; counted = λ z. omega arith })
-
--- a leaf that is stored, and one that is counted
-pub noted : (o : List ℕ) (u : Tally) (x : ℕ) (E : List Cell) → u.leaves < length o
-    → Walked o u (x ∷ []) E (record { leaves = u.leaves + 1; cells = u.cells }) (set o u.leaves x)
-noted o u x E h = record { met = refl; stored = refl; most = omega arith; counted = λ z. absurd (omega arith) }
-
-pub counted : (o : List ℕ) (u : Tally) (x n : ℕ) (E : List Cell) → length o ≤ u.leaves → n ≡ length E
-    → Walked o u (x ∷ []) E (record { leaves = u.leaves + 1; cells = u.cells + n }) o
-counted o u x n E h e =
-    record { met = refl; stored = sym (set_out _ _ _ h); most = omega (arith, e); counted = λ z. ap (λ (k : ℕ). u.cells + k) e }
 
 -- ---- from an octant to its children
 
@@ -294,10 +284,7 @@ some_leaf s d h =
     let b : 1 * 1 * 1 ≤ size (roots_of d) = mul-le-mul (mul-le-mul (f ax) (f ay)) (f az) in
     leaves_some (tree_of d s) alone (λ m x. omega arith) d.levels (roots_of d) b
 
--- ---- the two walks: over an empty table, and over one of just as many entries
-
-pub all_counted : (s : List ℕ) (d : Roots) (l l₁ : List ℕ) (r : Tally) → Walked l nothing (leaves_in s d) (cells_in s d) r l₁ → length l ≡ 0 → Counted s d r
-all_counted s d l l₁ r w e = record { of_leaves = omega (arith, w.met); of_cells = omega (arith, w.counted e) }
+-- ---- the walk over a table of just as many entries
 
 pub all_listed : (l l₁ K : List ℕ) (E : List Cell) (r : Tally) → Walked l nothing K E r l₁ → length l ≡ length K → l₁ ≡ K
 all_listed l l₁ K E r w e = w.stored ∙ sets_whole K l (sym e)

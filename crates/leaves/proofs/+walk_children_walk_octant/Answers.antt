@@ -18,10 +18,6 @@ use Rattle.leaves.proofs.+walk_children_walk_octant.Goals as goal
 small : (d : Roots) (s : List ℕ) (o : Octant) → Taken s d → Reached d.levels (roots_of d) (tree_of d s) o.level (place_of o) → (a : Axis) → place_of o a < most_along
 small d s o h r a = in_small _ _ _ (place_of o) h.covers.roots h.covers.levels r.inside a
 
-pub walk_children-overflow_sub-child : goal.walk_children-overflow_sub-child
-walk_children-overflow_sub-child t c =
-    omega (arith, split_above _ _ c.requires.taken c.args.o.level (place_of c.args.o) c.requires.left_bound.1)
-
 pub walk_children-overflow_mul-child : goal.walk_children-overflow_mul-child
 walk_children-overflow_mul-child t c = omega (arith, small c.args.d c.args.split.now c.args.o c.requires.taken c.requires.left.reached ax)
 

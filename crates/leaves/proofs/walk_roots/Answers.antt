@@ -27,29 +27,14 @@ overflow_mul-roots-2 c = omega (arith, few c.requires.covers.roots)
 pub loop-n-init : goal.loop-n-init
 loop-n-init c = going_start _ _ _
 
-pub nonzero_rem-root : goal.nonzero_rem-root
-nonzero_rem-root c = omega (arith, few c.requires.covers.roots)
-
-pub nonzero_div-root : goal.nonzero_div-root
-nonzero_div-root c = omega (arith, few c.requires.covers.roots)
-
-pub nonzero_rem-root-in-loop-n : goal.nonzero_rem-root-in-loop-n
-nonzero_rem-root-in-loop-n c = omega (arith, few c.requires.covers.roots)
-
 pub overflow_mul-root : goal.overflow_mul-root
 overflow_mul-root c = omega (arith, few c.requires.covers.roots)
-
-pub nonzero_div-root-in-loop-n : goal.nonzero_div-root-in-loop-n
-nonzero_div-root-in-loop-n c = omega (arith, few c.requires.covers.roots)
 
 pub walk_octant-tally-requires : goal.walk_octant-tally-requires
 walk_octant-tally-requires c = record { taken = c.requires; left = going_root _ _ _ _ _ _ c.loop-n.invariant (omega arith) c.requires }
 
 pub loop-n-preserved : goal.loop-n-preserved
 loop-n-preserved c = going_on _ _ _ _ _ _ c.loop-n.invariant (omega arith) c.walk_octant-tally.ensures
-
-pub shape_of-out : goal.shape_of-out
-shape_of-out c = c.loop-n.invariant.same
 
 pub returns : goal.returns
 returns c = going_done _ _ _ _ _ _ c.loop-n.invariant (omega arith)
