@@ -6,7 +6,7 @@ ghost use Rattle.file_steps.specs.Parts.{Storable, Placed};
 ghost use Rattle.mesh_layout.specs.Layout.{mesh_file};
 ghost use Rattle.mesh_writer.specs.Step.{bytes_for, WriteDone};
 
-use refusals::Counted;
+use refusals::CountError;
 
 // Fills a table of exactly its length with the file of a mesh.
 fn put_mesh(points: &[u32], cells: &[u32], file: &mut [u8], work: &mut [u32])
@@ -23,18 +23,21 @@ fn put_mesh(points: &[u32], cells: &[u32], file: &mut [u8], work: &mut [u32])
 
 // Writes the file of a mesh. Refused with 4, 5 or 8, and with 9 where `file` is shorter than the bytes needed, which it then carries:
 // both tables are then as lent. Answered with the bytes written: the first 2 entries a point of `work` are then zero.
-pub fn write_mesh(points: &[u32], cells: &[u32], file: &mut [u8], work: &mut [u32]) -> Counted
+// Beside `write_vtk`: a function over both would take a file's bytes and what fills it as closures, with contracts longer than this body.
+pub fn write_mesh(
+    points: &[u32],
+    cells: &[u32],
+    file: &mut [u8],
+    work: &mut [u32],
+) -> Result<u64, CountError>
     ensures { WriteDone points.now cells.now file.old work.old result file.new work.new }
 {
-    let number = mesh::judge(points.len(), cells, work.len(), 0, 2);
-    if number != 0 {
-        return Counted::Refused(number);
-    }
+    mesh::judge(points.len(), cells, work.len(), 0, 2)?;
     let bytes = 12 + 12 * (points.len() / 3) + 20 * (cells.len() / 4);
     if file.len() < bytes {
-        return Counted::Short(bytes as u64);
+        return Err(CountError::Short(bytes as u64));
     }
     let need = 2 * (points.len() / 3);
     put_mesh(points, cells, &mut file[..bytes], &mut work[..need]);
-    Counted::Done(bytes as u64)
+    Ok(bytes as u64)
 }

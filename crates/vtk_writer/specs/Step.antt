@@ -1,6 +1,6 @@
 -- `write_vtk`: the writer whose file is `vtk_file` with our title (rule R1.4). P is the table of points, C that of cells.
-use Rattle.std.specs.Prelude.{List, ℕ, ◌+◌, ◌*◌, length}
-use Rattle.refusals.specs.declared.Counted.{Counted}
+use Rattle.std.specs.Prelude.{List, ℕ, ◌+◌, ◌*◌, length, Result}
+use Rattle.refusals.specs.declared.CountError.{CountError}
 use Rattle.mesh.specs.Mesh.{points_of, cells_of}
 use Rattle.decimal.specs.Digits.{digits}
 use Rattle.file_steps.specs.Writer.{Writes}
@@ -14,5 +14,5 @@ bytes_of_counts p n = 165 + 12 * p + 28 * n + length (digits p) + 3 * length (di
 abbrev pub vtk_bytes : List ℕ → List ℕ → ℕ
 vtk_bytes P C = bytes_of_counts (points_of P) (cells_of C)
 
-abbrev pub WriteDone : (P C o w : List ℕ) → Counted → (o' w' : List ℕ) → Type 0
+abbrev pub WriteDone : (P C o w : List ℕ) → Result ℕ CountError → (o' w' : List ℕ) → Type 0
 WriteDone P C o w r o' w' = Writes 2 (vtk_bytes P C) (vtk_file our_title P C) P C o w r o' w'

@@ -12,7 +12,7 @@ ghost use Rattle.vtk_layout.specs.File.{led, vtk_file};
 ghost use Rattle.vtk_writer.specs.Step.{bytes_of_counts, vtk_bytes, WriteDone};
 ghost use Rattle.vtk_writer.specs.Parts.{led_cell, points_part, cells_part, types_part, numbers_part, Ended};
 
-use refusals::Counted;
+use refusals::CountError;
 use vtk_layout::{
     CELLS_WORD, DATA_WORD, DATASET_LINES, FEED, FLOAT_LINE, SCALAR_LINES, SPACE, TITLE_LINE,
     TYPES_WORD, VERSION_LINE,
@@ -36,11 +36,8 @@ fn put_cells(cells: &[u32], file: &mut [u8], at: usize)
     requires { at + 20 * (length cells.now / 4) ≤ length file.old }
     ensures { file.new ≡ sets file.old at (bytes_of true (led cells.now)) }
 {
-    let many = cells.len() / 4;
-    let mut i: usize = 0;
-    while i < many {
+    for i in 0..cells.len() / 4 {
         put_cell(cells, i, file, at + 20 * i);
-        i += 1;
     }
 }
 
@@ -114,18 +111,20 @@ fn bytes_for(p: usize, n: usize) -> usize
 
 // Writes the viewer's file of a mesh. Refused with 4, 5 or 8, and with 9 where `file` is shorter than the bytes needed, which it then
 // carries: both tables are then as lent. Answered with the bytes written: the first 2 entries a point of `work` are then zero.
-pub fn write_vtk(points: &[u32], cells: &[u32], file: &mut [u8], work: &mut [u32]) -> Counted
+pub fn write_vtk(
+    points: &[u32],
+    cells: &[u32],
+    file: &mut [u8],
+    work: &mut [u32],
+) -> Result<u64, CountError>
     ensures { WriteDone points.now cells.now file.old work.old result file.new work.new }
 {
-    let number = mesh::judge(points.len(), cells, work.len(), 0, 2);
-    if number != 0 {
-        return Counted::Refused(number);
-    }
+    mesh::judge(points.len(), cells, work.len(), 0, 2)?;
     let bytes = bytes_for(points.len() / 3, cells.len() / 4);
     if file.len() < bytes {
-        return Counted::Short(bytes as u64);
+        return Err(CountError::Short(bytes as u64));
     }
     let need = 2 * (points.len() / 3);
     put_mesh(points, cells, &mut file[..bytes], &mut work[..need]);
-    Counted::Done(bytes as u64)
+    Ok(bytes as u64)
 }
