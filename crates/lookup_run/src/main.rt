@@ -14,7 +14,7 @@ use std::io;
 use tape::{BYTES, Inputs, Part, Section};
 
 fn count(tape: &[u32], at: usize, i: usize) -> usize {
-    lists::wide(tape::word(tape, at, i))
+    tape::word(tape, at, i) as usize
 }
 
 // The roots of the octree at a place.
@@ -41,13 +41,7 @@ fn asked_at(tape: &[u32], at: usize) -> Octant {
 fn is_few(n: usize) -> bool
     ensures { result ≡ true → (1 ≤ n) × (n ≤ most_roots) }
 {
-    if n == 0 {
-        return false;
-    }
-    if 64 < n {
-        return false;
-    }
-    true
+    1 <= n && n <= 64
 }
 
 // Whether the table is one over these roots.
@@ -80,8 +74,7 @@ fn told(c: Covered) -> u64 {
             let x = tape::number(level, a.x as u64);
             tape::number(tape::number(x, a.y as u64), a.z as u64)
         }
-        Covered::Split => 0,
-        Covered::Outside => 0,
+        Covered::Split | Covered::Outside => 0,
     }
 }
 
