@@ -1,3 +1,2 @@
 -- The laws of the program.
 pub mod Roots
-pub mod Counter

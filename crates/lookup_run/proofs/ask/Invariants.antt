@@ -1,8 +1,5 @@
-use Prim.Native.Nat.{◌≤◌, ◌-◌}
+use Prim.Native.Nat.{◌≤◌}
 use Rattle.lookup_run.proofs.ask.Given as goal
 
 abbrev pub invariant-loop : goal.invariant-loop
-invariant-loop l = (l.differences ≤ l.counter) × (l.counter ≤ l.asked)
-
-abbrev pub decreases-loop : goal.decreases-loop
-decreases-loop l = l.asked - l.counter
+invariant-loop l = l.differences ≤ l.counter

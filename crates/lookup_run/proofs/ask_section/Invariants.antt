@@ -1,9 +1,5 @@
-use Rattle.std.proofs.Common.{◌*◌, ◌≤◌, ◌-◌}
+use Rattle.std.proofs.Common.{◌*◌, ◌≤◌}
 use Rattle.lookup_run.proofs.ask_section.Given as goal
 
 abbrev pub invariant-loop : goal.invariant-loop
-invariant-loop g l =
-    (l.asked ≤ 4294967295 * l.counter) × (l.differences ≤ 4294967295 * l.counter) × (l.counter ≤ l.calls)
-
-abbrev pub decreases-loop : goal.decreases-loop
-decreases-loop g l = l.calls - l.counter
+invariant-loop g l = (l.asked ≤ 4294967295 * l.counter) × (l.differences ≤ 4294967295 * l.counter)
