@@ -16,6 +16,9 @@ use Rattle.file_components.specs.declared.Blocks.{Blocks}
 use Rattle.file_steps.specs.Reader.{content_rows, Reads}
 use Rattle.file_steps.specs.Parts.{Loadable}
 use Rattle.file_steps.specs.declared.Loaded.{Loaded}
+use Rattle.file_steps.specs.declared.LoadError.{LoadError}
+use Rattle.std.specs.Prelude.{Result}
+use Rattle.refusals.specs.Refusals.{as_refusal, named}
 use Rattle.file_steps.proofs.Numbers.{lacks}
 use Rattle.file_steps.proofs.Readers.{contents_fit, after}
 use Rattle.mesh_layout.specs.Layout.{cut_at, end_of, second, third, end, blocks_of}
@@ -90,6 +93,10 @@ module _ (b : List ℕ) where
   unfolding proper file_rows section_rows content_rows count_rows name_rows
   file_proper = refl
 
+  pub file_named : named (file_rows b) ≡ true
+  unfolding named as_refusal file_rows section_rows content_rows count_rows name_rows
+  file_named = refl
+
   pub no_nine : lacks 9 (file_rows b) ≡ true
   unfolding lacks file_rows section_rows content_rows count_rows name_rows
   no_nine = refl
@@ -116,6 +123,6 @@ module _ (b : List ℕ) where
     pub loads : Loadable b s
     loads = subst (Loadable b) (sym e) (loadable z)
 
-    pub loaded : {x y w : List ℕ} {r : Loaded} {x' y' w' : List ℕ} → Reads [] b s x y w r x' y' w' → ReadDone b x y w r x' y' w'
+    pub loaded : {x y w : List ℕ} {r : Result Loaded LoadError} {x' y' w' : List ℕ} → Reads [] b s x y w r x' y' w' → ReadDone b x y w r x' y' w'
     loaded {x} {y} {w} {r} {x'} {y'} {w'} l =
         after (file_rows b) b (blocks_of b) x y w file_proper z (subst (λ (k : Blocks). Reads [] b k x y w r x' y' w') e l)

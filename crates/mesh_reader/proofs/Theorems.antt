@@ -10,7 +10,7 @@ use Rattle.lists.specs.Tables.{all_below, same}
 use Rattle.lists.proofs.Lent.{all_below_lem}
 use Rattle.lists.proofs.Listing.{same_eq, same_refl}
 use Rattle.refusals.specs.Rows.{first}
-use Rattle.refusals.specs.declared.Counted.TheVariants as counted
+use Rattle.std.specs.Prelude.{Result, Ok}
 use Rattle.refusals.proofs.Rows.{goes_on}
 use Rattle.mesh.specs.Mesh.{points_of, cells_of, Cells}
 use Rattle.words.proofs.Words.{length_words}
@@ -21,7 +21,8 @@ use Rattle.file_components.proofs.Comparing.{cells_in_lem}
 use Rattle.file_components.proofs.Small.{numbers_small}
 use Rattle.file_steps.specs.Meshes.{Mesh, Room, Back}
 use Rattle.file_steps.specs.declared.Loaded.{Loaded}
-use Rattle.file_steps.specs.declared.Loaded.TheVariants as loaded
+use Rattle.file_steps.specs.declared.LoadError.{LoadError}
+use Rattle.file_steps.specs.Loaded.{done}
 use Rattle.file_steps.proofs.Theorems.{Says, contents_clear, Answered, reads_mesh, read_answered, taken, file_left, mesh_in}
 use Rattle.mesh_layout.specs.Layout.{encode, mesh_file, blocks_of}
 use Rattle.mesh_layout.proofs.There.{Found, encode_found}
@@ -71,7 +72,7 @@ files_differ P C P' C' m m' e = (
 -- ---- what is written reads back
 
 -- an answer of `write_mesh`
-module _ (P C o w : List ℕ) {bytes : ℕ} {o' w' : List ℕ} (bits : all_below 4294967296 P ≡ true) (d : WriteDone P C o w (counted.Done bytes) o' w') where
+module _ (P C o w : List ℕ) {bytes : ℕ} {o' w' : List ℕ} (bits : all_below 4294967296 P ≡ true) (d : WriteDone P C o w (Ok bytes) o' w') where
   pub written_mesh : Mesh P C
   written_mesh = taken 2 (bytes_for P C) (mesh_file P C) P C o w d bits
 
@@ -80,7 +81,7 @@ module _ (P C o w : List ℕ) {bytes : ℕ} {o' w' : List ℕ} (bits : all_below
   written_file = file_left 2 (bytes_for P C) (mesh_file P C) P C o w d (length_file P C written_mesh.points written_mesh.cells.whole)
 
   -- and read with room, they are the mesh that was written
-  pub reads_back : (x y v : List ℕ) {a : Loaded} {x' y' v' : List ℕ} → Room (length x) (length y) (length v) (points_of P) (cells_of C)
+  pub reads_back : (x y v : List ℕ) {a : Result Loaded LoadError} {x' y' v' : List ℕ} → Room (length x) (length y) (length v) (points_of P) (cells_of C)
       → ReadDone (take bytes o') x y v a x' y' v' → Back P C x y v a x' y' v'
   reads_back x y v {a} {x'} {y'} {v'} r l =
       reads_mesh (file_rows (mesh_file P C)) (mesh_file P C) (blocks_of (mesh_file P C)) x y v (subst (λ (b : List ℕ). ReadDone b x y v a x' y' v') written_file l) P C
@@ -95,7 +96,7 @@ pub record Given (b x' y' : List ℕ) (p n : ℕ) : Type 0 where
   pub cells : cells_of (take (4 * n) y') ≡ n
   pub bytes : b ≡ mesh_file (take (3 * p) x') (take (4 * n) y')
 
-pub read_given : (b x y w : List ℕ) {p n : ℕ} {x' y' w' : List ℕ} → all_below 256 b ≡ true → ReadDone b x y w (loaded.Done p n) x' y' w' → Given b x' y' p n
+pub read_given : (b x y w : List ℕ) {p n : ℕ} {x' y' w' : List ℕ} → all_below 256 b ≡ true → ReadDone b x y w (done p n) x' y' w' → Given b x' y' p n
 read_given b x y w {p} {n} {x'} {y'} s d = by_answer (read_answered (file_rows b) b (blocks_of b) x y w (file_proper b) d)
   where
     by_answer : Answered (file_rows b) b (blocks_of b) p n x' y' → Given b x' y' p n
