@@ -67,11 +67,6 @@ module _ (W : List ℕ) (at i j : ℕ) (h : i < j) where
             ap₂ (λ (x y : ℕ). bit (not (eqb (owner_at W at x / 4) (owner_at W at y / 4)))) there before,
           )
 
-pub change_done : (W : List ℕ) (at i j many k : ℕ) → Changing W at i j many k → j ≤ k → many ≡ changes W at i (j - 1 - i)
-change_done W at i j many k p h =
-    let e : k ≡ j = omega (arith, p.within) in
-    p.is ∙ ap (λ (n : ℕ). changes W at i (n - 1 - i)) e
-
 -- ---- what is counted
 
 -- one of the owners at i and the d places behind it is of cell q
@@ -188,9 +183,3 @@ changes_same W W' at i (suc d) h =
       changes_same W W' at i d (λ k a b. h k a (omega arith)),
       ap₂ (λ (x y : ℕ). bit (not (eqb (x / 4) (y / 4)))) (h (i + suc d) (omega arith) (omega arith)) (h (i + d) (omega arith) (omega arith)),
     )
-
-pub fresh_one : (x y : ℕ) → x ≢ y → 1 ≡ bit (not (eqb x y))
-fresh_one x y n = rw (ne_eqb x y n) refl
-
-pub fresh_none : (x y : ℕ) → x ≡ y → 0 ≡ bit (not (eqb x y))
-fresh_none x y e = rw (eq-eqb x y e) refl

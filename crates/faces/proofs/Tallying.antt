@@ -4,7 +4,6 @@ use mathlib.Core.Logic.{◌⊎◌, inl, inr, ◌≢◌}
 use mathlib.Core.Bool.{true, false}
 use mathlib.Core.List.{List}
 use Prim.Native.Nat.{ℕ, ◌+◌, ◌-◌, ◌*◌, ◌/◌, ◌≤◌, ◌<◌, min}
-use native.Mathlib.Nat.{not-suc-le-zero}
 use native.Mathlib.Omega.{arith}
 use borrow.Author.Tests.{eqb-true, eq-eqb}
 use lib.Dec.{eqb}
@@ -23,7 +22,7 @@ use Rattle.face_theory.specs.Faces.{face_of, cell_at, names, Proper, crowd}
 use Rattle.lists.proofs.Bools.{bool_ext}
 use Rattle.face_theory.proofs.Naming.{has_named, names_own, face_rises}
 use Rattle.faces.proofs.Changes.{hits, hit_place, place_hit, changes_count, changes_same}
-use Rattle.faces.specs.Parts.{part, key_of, Whole, SortAsked, FaceSorted, owner_at, RunAsked, RunFound, MarkAsked, Marked, changes, CellsAsked, TellAsked, Rising, Told, Tallied, corner_of}
+use Rattle.faces.specs.Parts.{part, key_of, Whole, SortAsked, FaceSorted, owner_at, RunAsked, RunFound, MarkAsked, Marked, changes, TellAsked, Rising, Told, Tallied, corner_of}
 use Rattle.faces.proofs.Scattering.{part_at, part_length, owners_length, owner_below}
 use Rattle.faces.proofs.Telling.{key_of_lem, not_key}
 
@@ -170,15 +169,6 @@ module _ (C W₀ : List ℕ) (points at : ℕ) (asked : TellAsked C W₀ points 
           high = subst (λ (l : List ℕ). get_or l 1 0 < get_or l 2 0) e r.high;
         })
 
-  pub tell_start : Telling C W₀ W₀ points at 0
-  tell_start = record {
-    size = refl;
-    within = omega arith;
-    kept = λ k b. refl;
-    cut = λ k m a b c. absurd (not-suc-le-zero a);
-    told = λ k b r. absurd (not-suc-le-zero b);
-  }
-
   module _ (W : List ℕ) (i : ℕ) (p : Telling C W₀ W points at i) where
     kept_owner : (k : ℕ) → k < length C → owner_at W at k ≡ owner_at W₀ at k
     kept_owner k h = p.kept (at + k) (omega (arith, at_end))
@@ -232,9 +222,6 @@ module _ (C W₀ : List ℕ) (points at : ℕ) (asked : TellAsked C W₀ points 
           go : (k < i) ⊎ (i ≤ k) → key_of points C (owner_at W₀ at k) < key_of points C (owner_at W₀ at m)
           go (inl q) = p.cut k m q (omega (arith, run.on)) c
           go (inr q) = omega (arith, key_mid k q a, high m b c)
-
-      pub cells_asked : CellsAsked W at i j
-      cells_asked = record { order = run.on; room = omega (arith, at_end, asked.asked.room, p.size, run.within) }
 
       pub tell_next : (W' : List ℕ) (v c : ℕ) → length W' ≡ length W → c ≡ changes W at i (j - 1 - i) → v ≡ min c 3 → Marked W W' at (2 * length C) (length C) i j v
           → Telling C W₀ W' points at j

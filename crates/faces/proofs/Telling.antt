@@ -2,24 +2,25 @@
 use mathlib.Core.Path.{◌≡◌, refl, sym, ap, ap₂, subst, ◌∙◌}
 use mathlib.Core.Logic.{◌⊎◌, inl, inr, ◌≢◌}
 use mathlib.Core.Bool.{Bool, true, false, ◌&&◌, and-false, true≢false}
-use mathlib.Core.List.{List, [], ◌∷◌}
+use mathlib.Core.List.{List, [], ◌∷◌, ◌++◌}
 use Prim.Native.Nat.{ℕ, ◌+◌, ◌*◌, ◌≤◌, ◌<◌}
 use native.Mathlib.Omega.{arith}
 use borrow.Author.Tests.{eq-eqb, ne_eqb}
 use lib.Dec.{eqb}
-use lib.ListN.{length, get_or, set, take, length-set}
-use lib.Seq.{get_or-set_same, get_or-set_other, get_or-take, length-take-le}
+use lib.ListN.{length, get_or, take}
+use lib.Seq.{take_at}
 use Rattle.lists.specs.Tables.{all_below, same}
 use Rattle.lists.proofs.Cases.{eq_or}
 use Rattle.lists.proofs.Listing.{same_eq, same_refl, list_is}
 use Rattle.passes.specs.Passes.{up_to}
 use Rattle.passes.proofs.Composing.{pair_first, pair_second}
 use Rattle.face_theory.specs.Faces.{face_of}
-use Rattle.faces.specs.Parts.{corner_of, key_of, owner_at, RunFound, MarkAsked, Marked}
+use Rattle.faces.specs.Parts.{corner_of, key_of, owner_at, RunFound}
 use Rattle.faces.proofs.Corners.{corner_below}
 
-pub numbered : (n : ℕ) (w : List ℕ) → n ≤ length w → ((k : ℕ) → k < n → get_or w k 0 ≡ k) → take n w ≡ up_to n
-numbered n w h e = sym (list_is (λ i. i) n (take n w) (length-take-le n w h) (λ i b. sym (get_or-take n w i 0 b ∙ e i b)))
+-- the front was lent to be numbered, and is now s
+pub numbered : (n : ℕ) (s d : List ℕ) → length s ≡ n → ((k : ℕ) → k < n → get_or s k 0 ≡ k) → take n (s ++ d) ≡ up_to n
+numbered n s d l e = take_at s d n l ∙ sym (list_is (λ i. i) n s l (λ i b. sym (e i b)))
 
 -- ---- the test of a face
 
@@ -92,9 +93,6 @@ module _ (C W : List ℕ) (at i j : ℕ) (p : Running C W at i j) where
   pub run_stop : same (face_of C (owner_at W at j)) (face_of C (owner_at W at i)) ≡ false → RunFound C W at i j
   run_stop e = record { on = p.on; within = p.within; inside = p.inside; stop = λ h. e }
 
-  pub run_out : length C ≤ j → RunFound C W at i j
-  run_out h = record { on = p.on; within = p.within; inside = p.inside; stop = λ b. let z : ⊥ = omega arith in absurd z }
-
 -- ---- marking
 
 pub record Marking (W₀ W : List ℕ) (at to n i j v k : ℕ) : Type 0 where
@@ -104,49 +102,6 @@ pub record Marking (W₀ W : List ℕ) (at to n i j v k : ℕ) : Type 0 where
   pub kept : (m : ℕ) → m < to → get_or W m 0 ≡ get_or W₀ m 0
   pub new : (m : ℕ) → i ≤ m → m < k → get_or W (to + owner_at W₀ at m) 0 ≡ v
   pub old : (o : ℕ) → ((m : ℕ) → i ≤ m → m < k → owner_at W₀ at m ≢ o) → get_or W (to + o) 0 ≡ get_or W₀ (to + o) 0
-
-module _ (W₀ : List ℕ) (at to n i j v : ℕ) (asked : MarkAsked W₀ at to n i j) where
-  pub mark_start : Marking W₀ W₀ at to n i j v i
-  mark_start = record { on = omega arith; up = asked.order; size = refl; kept = λ m b. refl; new = λ m a b. omega arith; old = λ o h. refl }
-
-  module _ (W : List ℕ) (k : ℕ) (p : Marking W₀ W at to n i j v k) where
-    module _ (h : k < j) where
-      pub mark_read : at + k < length W
-      mark_read = omega (arith, asked.before, asked.room, asked.within, p.size)
-
-      module _ (o : ℕ) (e : o ≡ get_or W (at + k) 0) where
-        is : o ≡ owner_at W₀ at k
-        is = e ∙ p.kept (at + k) (omega (arith, asked.before, asked.within))
-
-        pub mark_room : to + o < length W
-        mark_room = omega (arith, is, asked.owners k (omega (arith, asked.within)), asked.room, p.size)
-
-        pub mark_next : Marking W₀ (set W (to + o) v) at to n i j v (k + 1)
-        mark_next = record { on = omega (arith, p.on); up = omega arith; size = simp length-set p.size; kept = kept'; new = new'; old = old' }
-          where
-            kept' : (m : ℕ) → m < to → get_or (set W (to + o) v) m 0 ≡ get_or W₀ m 0
-            kept' m b = get_or-set_other W (to + o) m v 0 (omega arith) ∙ p.kept m b
-
-            new' : (m : ℕ) → i ≤ m → m < k + 1 → get_or (set W (to + o) v) (to + owner_at W₀ at m) 0 ≡ v
-            new' m a b = go (eq_or (owner_at W₀ at m) o) (eq_or m k)
-              where
-                go : (owner_at W₀ at m ≡ o) ⊎ (owner_at W₀ at m ≢ o) → (m ≡ k) ⊎ (m ≢ k)
-                    → get_or (set W (to + o) v) (to + owner_at W₀ at m) 0 ≡ v
-                go (inl q) r = ap (λ (x : ℕ). get_or (set W (to + o) v) (to + x) 0) q ∙ get_or-set_same W (to + o) v 0 mark_room
-                go (inr d) (inl q) = absurd (d (ap (owner_at W₀ at) q ∙ sym is))
-                go (inr d) (inr q) = get_or-set_other W (to + o) (to + owner_at W₀ at m) v 0 (omega arith) ∙ p.new m a (omega arith)
-
-            old' : (x : ℕ) → ((m : ℕ) → i ≤ m → m < k + 1 → owner_at W₀ at m ≢ x) → get_or (set W (to + o) v) (to + x) 0 ≡ get_or W₀ (to + x) 0
-            old' x d =
-                let ne : to + x ≢ to + o = omega (arith, is, d k p.on (omega arith)) in
-                get_or-set_other W (to + o) (to + x) v 0 ne ∙ p.old x (λ m a b. d m a (omega arith))
-
-    pub mark_done : j ≤ k → Marked W₀ W at to n i j v
-    mark_done h = record {
-      kept = p.kept;
-      new = λ m a b. p.new m a (omega arith);
-      old = λ o d. p.old o (λ m a b. d m a (omega (arith, p.up)));
-    }
 
 -- ---- keys
 

@@ -9,6 +9,7 @@ use Rattle.lists.specs.Tests.{any}
 use Rattle.lists.proofs.Any.{some_any, any_found}
 use Rattle.lists.proofs.Bools.{bool_cases, clash}
 use Rattle.refusals.specs.Rows.{first, proper}
+use Rattle.refusals.specs.Refusals.{as_refusal, named}
 use Rattle.refusals.proofs.Rows.{clear, front_clear, rest_clear}
 use Rattle.mesh.specs.Mesh.{cells_of, cell_of, in_order}
 use Rattle.refusals.specs.Causes.{work_rows}
@@ -38,6 +39,10 @@ module _ (p : ℕ) (C : List ℕ) (room : ℕ) where
   pub rows_proper : proper (face_rows p C room) ≡ true
   unfolding proper face_rows twice_rows mesh_rows name_rows size_rows count_rows whole_rows work_rows
   rows_proper = refl
+
+  pub rows_named : named (face_rows p C room) ≡ true
+  unfolding named as_refusal face_rows twice_rows mesh_rows name_rows size_rows count_rows whole_rows work_rows
+  rows_named = refl
 
   pub faces_fit : first (face_rows p C room) ≡ 0 → Fitting p C room 16 0
   unfolding face_rows

@@ -1,9 +1,8 @@
 -- The turns of `note_roots` and `note_lasts`. Assumes nothing.
-use mathlib.Core.Path.{◌≡◌, refl, sym, ap, subst, ◌∙◌}
+use mathlib.Core.Path.{◌≡◌, sym, ap, subst, ◌∙◌}
 use mathlib.Core.Logic.{◌⊎◌, inl, inr, ◌≢◌}
 use mathlib.Core.List.{List, ◌++◌}
 use Prim.Native.Nat.{ℕ, ◌+◌, ◌*◌, ◌≤◌, ◌<◌}
-use native.Mathlib.Nat.{not-suc-le-zero}
 use native.Mathlib.Omega.{arith}
 use lib.ListN.{length, get_or, set, take, drop, length-set, length-drop}
 use lib.Seq.{length-take-le, length_front, get_or-set_same, get_or-set_other, take_at, drop_at, take-set-le, take-set-lt, drop-set-lt, drop-set-add, get_or-take, get_or-drop}
@@ -49,16 +48,6 @@ linked C X w P n s kept j =
     let len : length P ≡ n = kept ∙ length-take-le n w (omega (arith, s.long)) in
     record { sized = record { cells = s.cells; long = length_front w P n kept ∙ s.long }; joint = subst (Joint C X) (sym (take_at P (drop n w) n len)) j }
 
-pub noting_start : (C X w : List ℕ) (n : ℕ) → Linked C X w n → Noting C X w n 0
-noting_start C X w n l = record {
-  sized = l.sized;
-  forest = l.joint.forest;
-  f = l.joint.f;
-  roots = l.joint.roots;
-  groups = l.joint.groups;
-  noted = λ j h. absurd (not-suc-le-zero h);
-}
-
 pub noting_step : (C X w w' : List ℕ) (n i : ℕ) → Noting C X w n i → i < cells_of C → length w' ≡ length w → RootNoted C X w w' n i
     → Noting C X w' n (i + 1)
 noting_step C X w w' n i l h kept r = go (eq_or (get_or X i 0) 0)
@@ -96,10 +85,6 @@ noting_step C X w w' n i l h kept r = go (eq_or (get_or X i 0) 0)
               (below_set Fact (drop n w) i r.root room l.noted (λ y. (found.1, inside)));
         }
 
-pub noting_done : (C X w : List ℕ) (n i : ℕ) → Noting C X w n i → cells_of C ≤ i → Rooting C X w n
-noting_done C X w n i l d =
-    record { sized = l.sized; f = l.f; groups = l.groups; noted = λ j h. l.noted j (omega arith) }
-
 -- ---- the last cell of each group
 
 -- among the first i cells, the last of each group stands at its root
@@ -107,9 +92,6 @@ pub record Lasting (X D w : List ℕ) (n m i : ℕ) : Type 0 where
   pub long : length w ≡ n + m
   pub same : drop n w ≡ D
   pub last : (j : ℕ) → j < i → get_or X j 0 ≡ 0 → Last X D i j (get_or (take n w) (get_or D j 0) 0)
-
-pub lasting_start : (X w : List ℕ) (n m : ℕ) → length w ≡ n + m → Lasting X (drop n w) w n m 0
-lasting_start X w n m e = record { long = e; same = refl; last = λ j h. absurd (not-suc-le-zero h) }
 
 pub root_at : {X D w : List ℕ} {n m i : ℕ} → Lasting X D w n m i → get_or w (n + i) 0 ≡ get_or D i 0
 root_at {w = w} {n = n} {i = i} l = sym (get_or-drop n w i 0) ∙ ap (λ (u : List ℕ). get_or u i 0) l.same

@@ -8,7 +8,7 @@ use native.Mathlib.Omega.{arith}
 use borrow.Rule.Slice.PartMut.{put_mid}
 use lib.ListN.{length, get_or, take, drop}
 use Rattle.lists.specs.Tables.{same}
-use Rattle.mesh.specs.Mesh.{cells_of, most}
+use Rattle.mesh.specs.Mesh.{cells_of}
 use Rattle.lists.proofs.Cases.{lt_or}
 use Rattle.lists.proofs.Listing.{same_eq, same_refl}
 use Rattle.links.specs.Walks.{Walk, here, fore, Groups}
@@ -25,7 +25,7 @@ use Rattle.faces.proofs.Telling.{key_of_lem, face_of_lem}
 use Rattle.faces.proofs.Tallying.{at_end, owners, rising, points_some, position}
 use Rattle.pieces.specs.Pieces.{ShareFace}
 use Rattle.pieces.specs.Parts.{parents, LinkAsked, Linked, NextAsked, NextJoined}
-use Rattle.pieces.proofs.Joining.{lent_is, parents_length, put_length, put_is, put_kept}
+use Rattle.pieces.proofs.Joining.{put_length, put_is, put_kept}
 
 -- the cells of two owners with one face, the second at a place below i and the first before it
 pub record Near (C W : List ℕ) (at i q r : ℕ) : Type 0 where
@@ -93,19 +93,12 @@ module _ (C W : List ℕ) (at i : ℕ) (on : 0 < i) (inside : i < length C) (f :
 -- ---- the walk over all places
 
 module _ (C W₀ : List ℕ) (points at : ℕ) (asked : LinkAsked C W₀ points at) where
-  pub start_asked : length (take (2 * length C + length C / 4 - 2 * length C) (drop (2 * length C) W₀)) ≤ most
-  start_asked =
-      omega (arith, ap length (lent_is C W₀ asked.tell.asked.room), parents_length C W₀ asked.tell.asked.room, asked.few)
-
   -- the table with the parents written still has its owners
   module _ (z : List ℕ) (lz : length z ≡ length (take (2 * length C + length C / 4 - 2 * length C) (drop (2 * length C) W₀))) where
     still : part at (length C) (put_mid (2 * length C) (2 * length C + length C / 4 - 2 * length C) W₀ z) ≡ part at (length C) W₀
     still =
         put_part (2 * length C) (2 * length C + length C / 4 - 2 * length C) W₀ z (omega (arith, asked.tell.asked.room)) at (length C)
         (put_length C W₀ asked.tell.asked.room z lz) (omega (arith, at_end C W₀ points at asked.tell))
-
-    pub after_length : length (put_mid (2 * length C) (2 * length C + length C / 4 - 2 * length C) W₀ z) ≡ length W₀
-    after_length = put_length C W₀ asked.tell.asked.room z lz
 
     pub asked_after : LinkAsked C (put_mid (2 * length C) (2 * length C + length C / 4 - 2 * length C) W₀ z) points at
     asked_after = record {

@@ -1,6 +1,6 @@
 -- The parents as a part of the work table. Assumes nothing.
-use mathlib.Core.Path.{◌≡◌, refl, sym, ap, subst, ◌∙◌}
-use mathlib.Core.Bool.{Bool, true, false, true≢false}
+use mathlib.Core.Path.{◌≡◌, sym, ap, subst, ◌∙◌}
+use mathlib.Core.Bool.{Bool, true, true≢false}
 use mathlib.Core.List.{List, ◌++◌}
 use Prim.Native.Nat.{ℕ, ◌+◌, ◌-◌, ◌*◌, ◌/◌, ◌≤◌, ◌<◌}
 use native.Mathlib.Omega.{arith}
@@ -8,7 +8,7 @@ use borrow.Rule.Slice.PartMut.{put_mid, post_of, same_len_mid}
 use lib.ListN.{length, get_or, take, drop}
 use lib.Seq.{length-take-le, take_at, drop_at}
 use Rattle.lists.specs.Tables.{same}
-use Rattle.links.specs.Parts.{Forest, Joined, JoinAsked}
+use Rattle.links.specs.Parts.{Forest, Joined}
 use Rattle.face_theory.specs.Faces.{face_of}
 use Rattle.faces.specs.Parts.{part, owner_at}
 use Rattle.faces.proofs.Scattering.{part_length}
@@ -40,33 +40,8 @@ module _ (C W : List ℕ) (room : 4 * length C ≤ length W) where
     put_kept k b = put_before (2 * length C) (2 * length C + length C / 4 - 2 * length C) W z (omega arith) k b
 
 module _ (C W : List ℕ) (at i : ℕ) (asked : NextAsked C W at i) (p q : ℕ) (ep : p ≡ get_or W (at + (i - 1)) 0) (eq : q ≡ get_or W (at + i) 0) where
-  pub p_in : p < length C
-  p_in = omega (arith, asked.owners (i - 1) (omega (arith, asked.here)))
-
-  pub q_in : q < length C
-  q_in = omega (arith, asked.owners i asked.here)
-
   test : (r : Bool) → r ≡ same (face_of C q) (face_of C p) → r ≡ same (face_of C (owner_at W at i)) (face_of C (owner_at W at (i - 1)))
   test r e = e ∙ ap (λ (x : ℕ). same (face_of C x) (face_of C p)) eq ∙ ap (λ (x : ℕ). same (face_of C (owner_at W at i)) (face_of C x)) ep
-
-  pub not_joined : same (face_of C q) (face_of C p) ≡ false → NextJoined C W W at i
-  not_joined e = record {
-    kept = λ k b. refl;
-    forest = asked.forest;
-    apart = λ h. refl;
-    joined = λ h. absurd (true≢false (sym h ∙ sym (test false (sym e))));
-  }
-
-  lent_length : length (take (2 * length C + length C / 4 - 2 * length C) (drop (2 * length C) W)) ≡ length C / 4
-  lent_length = ap length (lent_is C W asked.room) ∙ parents_length C W asked.room
-
-  pub join_asked : JoinAsked (take (2 * length C + length C / 4 - 2 * length C) (drop (2 * length C) W)) (p / 4) (q / 4)
-  join_asked = record {
-    forest = subst Forest (sym (lent_is C W asked.room)) asked.forest;
-    x_in = omega (arith, lent_length, p_in, asked.whole.fours);
-    y_in = omega (arith, lent_length, q_in, asked.whole.fours);
-    small = omega (arith, lent_length, asked.few);
-  }
 
   pub is_joined : same (face_of C q) (face_of C p) ≡ true → (z : List ℕ)
       → length z ≡ length (take (2 * length C + length C / 4 - 2 * length C) (drop (2 * length C) W))

@@ -14,8 +14,8 @@ use Rattle.lists.proofs.Appearing.{same_count, same_numbers}
 use Rattle.mesh.specs.Mesh.{most}
 use Rattle.links.specs.Parts.{Forest, Roots}
 use Rattle.links.proofs.Levelling.{level_root}
-use Rattle.components.specs.Parts.{Numbers, Askable, NumberedAt, Settled}
-use Rattle.components.proofs.Counting.{Counting, counting_start, counting_step, k_le, turn_of, all_counted, all_few, all_stored}
+use Rattle.components.specs.Parts.{Numbers, NumberedAt, Settled}
+use Rattle.components.proofs.Counting.{Counting, counting_start, counting_step, turn_of, all_counted, all_few, all_stored}
 use Rattle.faces.specs.Parts.{part, SortAsked, FaceSorted}
 use Rattle.faces.proofs.Scattering.{part_length}
 use Rattle.faces.proofs.Tallying.{tell_asked}
@@ -42,24 +42,9 @@ turning_start w W o m a e l s = record {
 }
 
 module _ {W₀ W o₀ o : List ℕ} {m count i : ℕ} (t : Turning W₀ W o₀ o m count i) (h : i < m) where
-  pub turning_asks : Askable m W i count
-  turning_asks = record {
-    long = t.long;
-    forest = subst Forest (sym t.parents) t.counting.forest;
-    v_in = h;
-    room = omega (arith, t.counting.below, t.few);
-  }
-
-  pub count_small : count < most
-  count_small = omega (arith, t.counting.below, t.few)
-
   module _ (W' : List ℕ) (k : ℕ) (kept : length W' ≡ length W) (a : NumberedAt m W W' i count k) where
     number : Numbers (drop m W) (drop m W') (get_or (take m W₀) i 0) count k
     number = turn_of (take m W) (take m W₀) i i t.parents refl a.number
-
-    pub number_small : k < most
-    number_small =
-        omega (arith, count_small, k_le (λ k. k) (take m W₀) (drop m W) o₀ o m m count i t.counting h (drop m W') k h number)
 
     pub turning_on : (count' : ℕ) → ((k ≡ count) × (count' ≡ count + 1)) ⊎ ((k ≢ count) × (count' ≡ count))
         → Turning W₀ W' o₀ (set o i k) m count' (i + 1)

@@ -13,11 +13,12 @@ use Rattle.lists.proofs.Lent.{determined, as_new}
 use Rattle.lists.proofs.Appearing.{same_number, one_number}
 use Rattle.refusals.specs.Rows.{first, InTurn}
 use Rattle.refusals.specs.Causes.{room_rows}
-use Rattle.refusals.specs.Counted.{number_of}
-use Rattle.refusals.specs.declared.Counted.{Counted}
-use Rattle.refusals.specs.declared.Counted.TheVariants.{Done}
-use Rattle.refusals.proofs.Rows.{number_alone, in_turn, front_clear, unless_none}
-use Rattle.refusals.proofs.Counting.{room_number, counted_number}
+use Rattle.std.specs.Prelude.{Result, Ok, Err}
+use Rattle.refusals.specs.Refusals.{as_refusal, count_number}
+use Rattle.refusals.specs.declared.Refusal.{Refusal}
+use Rattle.refusals.specs.declared.CountError.{CountError}
+use Rattle.refusals.proofs.Rows.{in_turn, front_clear, unless_none}
+use Rattle.refusals.proofs.Refusals.{named_alone, room_number, counted_number}
 use Rattle.mesh.specs.Mesh.{cells_of}
 use Rattle.sorting.proofs.Counting.{many_find}
 use Rattle.links.specs.Walks.{Walk, here, fore, Share}
@@ -29,11 +30,9 @@ use Rattle.components.proofs.Theorems.{Joined, numbers_mean}
 use Rattle.face_theory.specs.Faces.{cell_at, common, Proper}
 use Rattle.face_theory.proofs.Triples.{among_at}
 use Rattle.face_theory.proofs.Sides.{place_of}
-use Rattle.faces.proofs.Twice.{rows_proper, once}
+use Rattle.faces.proofs.Twice.{rows_proper, rows_named, once}
 use Rattle.pieces.specs.Pieces.{piece_at, face_numbers, face_count, ShareFace, JoinedByFaces}
 use Rattle.pieces.specs.Step.{piece_rows, face_components_rows, face_components_of, face_numbers_after, FaceComponentsDone, piece_number, one_piece_of, OnePieceDone}
-use Rattle.pieces.specs.declared.OnePiece.{OnePiece}
-use Rattle.pieces.specs.declared.OnePiece.TheVariants as piece
 use Rattle.pieces.proofs.Labelled.{pieces_labelled, length_faces}
 
 -- ---- the numbers
@@ -66,36 +65,36 @@ module _ (C : List ℕ) (proper : Proper C) where
 -- ---- each refusal exactly when: in its turn
 
 module _ (P C o w : List ℕ) where
-  number_is : number_of (face_components_of P C o w) ≡ first (face_components_rows P C o w)
+  number_is : count_number (face_components_of P C o w) ≡ first (face_components_rows P C o w)
   unfolding face_components_of first room_rows
   number_is =
-      counted_number (piece_rows P C w) (room_rows (length o) (cells_of C)) _ (rows_proper (length P) C (length w))
+      counted_number (piece_rows P C w) (room_rows (length o) (cells_of C)) _ (rows_proper (length P) C (length w)) (rows_named (length P) C (length w))
       (room_number (length o) (cells_of C) (cells_of C) _ [] refl)
 
-  pub face_components_in_turn : (k : ℕ) → 0 < k → (number_of (face_components_of P C o w) ≡ k) ↔ InTurn k (face_components_rows P C o w)
+  pub face_components_in_turn : (k : ℕ) → 0 < k → (count_number (face_components_of P C o w) ≡ k) ↔ InTurn k (face_components_rows P C o w)
   face_components_in_turn = in_turn (face_components_rows P C o w) number_is
 
 module _ (P C w : List ℕ) where
   piece_number_is : piece_number (one_piece_of P C w) ≡ first (piece_rows P C w)
   unfolding one_piece_of
-  piece_number_is = number_alone piece_number piece.Refused _ (piece_rows P C w) (λ k. refl) refl
+  piece_number_is = named_alone piece_number (λ k. Err (as_refusal k)) _ (piece_rows P C w) (rows_named (length P) C (length w)) (λ k. refl) refl
 
   pub one_piece_in_turn : (k : ℕ) → 0 < k → (piece_number (one_piece_of P C w) ≡ k) ↔ InTurn k (piece_rows P C w)
   one_piece_in_turn = in_turn (piece_rows P C w) piece_number_is
 
 -- ---- one outcome only
 
-pub face_components_one : (P C o w : List ℕ) → Determined (λ (z : Counted × List ℕ × List ℕ). FaceComponentsDone P C o w z.0 z.1 z.2)
+pub face_components_one : (P C o w : List ℕ) → Determined (λ (z : Result ℕ CountError × List ℕ × List ℕ). FaceComponentsDone P C o w z.0 z.1 z.2)
 face_components_one P C o w = determined (λ z a i. (a.answer i, a.numbers i, a.work i))
 
-pub one_piece_one : (P C w : List ℕ) → Determined (λ (z : OnePiece × List ℕ). OnePieceDone P C w z.0 z.1)
+pub one_piece_one : (P C w : List ℕ) → Determined (λ (z : Result Bool Refusal × List ℕ). OnePieceDone P C w z.0 z.1)
 one_piece_one P C w = determined (λ z a i. (a.answer i, a.work i))
 
 -- ---- from the contract
 
-module _ {P C o w o' w' : List ℕ} {r : ℕ} (d : FaceComponentsDone P C o w (Done r) o' w') where
-  zero_number : number_of (face_components_of P C o w) ≡ 0
-  zero_number = sym (ap number_of d.answer)
+module _ {P C o w o' w' : List ℕ} {r : ℕ} (d : FaceComponentsDone P C o w (Ok r) o' w') where
+  zero_number : count_number (face_components_of P C o w) ≡ 0
+  zero_number = sym (ap (λ (a : Result ℕ CountError). count_number a) d.answer)
 
   pub answered_proper : Proper C
   answered_proper = once (length P) C (length w) (front_clear (piece_rows P C w) _ (sym (number_is P C o w) ∙ zero_number))
@@ -112,17 +111,17 @@ module _ {P C o w o' w' : List ℕ} {r : ℕ} (d : FaceComponentsDone P C o w (D
       let m = faces_mean C answered_proper i j hi hj in
       (λ e. m.0 (sym (stored i hi) ∙ e ∙ stored j hj), λ v. stored i hi ∙ m.1 v ∙ sym (stored j hj))
 
-module _ {P C w w' : List ℕ} {b : Bool} (d : OnePieceDone P C w (piece.Told b) w') where
-  abbrev whole : OnePiece → Bool
-  whole (piece.Told x) = x
-  whole (piece.Refused k) = false
+module _ {P C w w' : List ℕ} {b : Bool} (d : OnePieceDone P C w (Ok b) w') where
+  abbrev whole : Result Bool Refusal → Bool
+  whole (Ok x) = x
+  whole (Err why) = false
 
   not_refused : first (piece_rows P C w) ≡ 0
   not_refused = sym (piece_number_is P C w) ∙ sym (ap piece_number d.answer)
 
   told_is : b ≡ eqb (face_count C (cells_of C)) 1
   unfolding one_piece_of
-  told_is = ap whole (d.answer ∙ unless_none _ piece.Refused _ not_refused)
+  told_is = ap whole (d.answer ∙ unless_none _ _ _ not_refused)
 
   -- a mesh is told to be one piece exactly when there are cells and all are joined
   pub told_means : (b ≡ true) ↔ ((0 < cells_of C) × ((i j : ℕ) → i < cells_of C → j < cells_of C → JoinedByFaces C i j))
@@ -159,14 +158,14 @@ pub joined_by_vertices : (C : List ℕ) (i j : ℕ) → JoinedByFaces C i j → 
 joined_by_vertices C i j = walk_in (share C)
 
 -- cells with one number by faces have one number by vertices, whatever tables both steps were lent
-pub refines : {P Q C o w o' w' v n v' n' : List ℕ} {r s : ℕ} → FaceComponentsDone P C o w (Done r) o' w' → ComponentsDone Q C n v (Done s) n' v'
+pub refines : {P Q C o w o' w' v n v' n' : List ℕ} {r s : ℕ} → FaceComponentsDone P C o w (Ok r) o' w' → ComponentsDone Q C n v (Ok s) n' v'
     → (i j : ℕ) → i < cells_of C → j < cells_of C → get_or o' i 0 ≡ get_or o' j 0 → get_or n' i 0 ≡ get_or n' j 0
 refines {Q = Q} {C = C} {v = v} {n = n} {n' = n'} d c i j hi hj e =
     kept i hi ∙ (numbers_mean C (cells_of C) i j hi hj).1 (joined_by_vertices C i j ((answered_means d i j hi hj).0 e)) ∙ sym (kept j hj)
   where
     kept : (k : ℕ) → k < cells_of C → get_or n' k 0 ≡ get_or (component_numbers C (cells_of C)) k 0
     kept k h =
-        let z : number_of (components_of Q C n v) ≡ 0 = sym (ap number_of c.answer) in
+        let z : count_number (components_of Q C n v) ≡ 0 = sym (ap (λ (a : Result ℕ CountError). count_number a) c.answer) in
         let e : numbers_after Q C n v ≡ component_numbers C (cells_of C) ++ drop (cells_of C) n = rw z (as_new [] _ n) in
         ap (λ (l : List ℕ). get_or l k 0) (c.numbers ∙ e)
         ∙ get_or-append (component_numbers C (cells_of C)) _ 0 k (omega (arith, length_components C (cells_of C)))

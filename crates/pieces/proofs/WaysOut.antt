@@ -1,6 +1,5 @@
 -- The outcomes of the two steps, one law for each way out. Assumes nothing.
 use mathlib.Core.Path.{◌≡◌, refl, sym, ap, ◌∙◌}
-use mathlib.Core.Logic.{◌≢◌}
 use mathlib.Core.Bool.{Bool}
 use mathlib.Core.List.{List, [], ◌++◌}
 use Prim.Native.Nat.{ℕ, ◌*◌, ◌/◌, ◌≤◌, ◌<◌}
@@ -12,15 +11,18 @@ use lib.Seq.{length-take-le}
 use Rattle.lists.proofs.Parts.{sets_whole}
 use Rattle.lists.proofs.Lent.{as_lent, as_new}
 use Rattle.refusals.specs.Rows.{first}
-use Rattle.refusals.specs.declared.Counted.TheVariants.{Done, Refused, Short}
-use Rattle.refusals.proofs.Rows.{unless_none, unless_some}
+use Rattle.refusals.specs.Refusals.{as_number}
+use Rattle.refusals.specs.declared.Refusal.{Refusal}
+use Rattle.refusals.specs.declared.CountError.TheVariants.{Refused, Short}
+use Rattle.refusals.proofs.Rows.{unless_none}
+use Rattle.refusals.proofs.Refusals.{above_none, handed_up}
+use Rattle.std.specs.Prelude.{Ok, Err}
 use Rattle.mesh.specs.Mesh.{cells_of}
 use Rattle.faces.specs.Judged.{face_rows}
 use Rattle.faces.proofs.Twice.{faces_fit, once}
 use Rattle.pieces.specs.Pieces.{face_numbers, face_count}
 use Rattle.pieces.specs.Parts.{Fits, Listed}
 use Rattle.pieces.specs.Step.{piece_rows, face_components_of, FaceComponentsDone, one_piece_of, OnePieceDone}
-use Rattle.pieces.specs.declared.OnePiece.TheVariants as piece
 use Rattle.pieces.proofs.Labelled.{length_faces}
 
 -- the work that is asked is there
@@ -42,39 +44,40 @@ zeros_lent P C w z e = e ∙ ap (λ (k : ℕ). replicate k 0) (length-take-le (1
 -- ---- the numbering by faces
 
 module _ (P C o w : List ℕ) where
-  pub refused : {r : ℕ} → r ≡ first (piece_rows P C w) → r ≢ 0 → FaceComponentsDone P C o w (Refused r) o w
+  pub refused : {why : Refusal} → as_number why ≡ first (piece_rows P C w) → FaceComponentsDone P C o w (Err (Refused why)) o w
   unfolding face_components_of
-  refused {r} e d =
-      let a : face_components_of P C o w ≡ Refused r = rw (← e) (unless_some r Refused _ d) in
-      record { answer = sym a; numbers = rw a (sym (as_lent r _ o d)); work = rw a (sym (as_lent r _ w d)) }
+  refused {why} e =
+      let d = above_none why in
+      let a : face_components_of P C o w ≡ Err (Refused why) = handed_up (λ e. Err (Refused e)) _ why e in
+      record { answer = sym a; numbers = rw a (sym (as_lent _ _ o d)); work = rw a (sym (as_lent _ _ w d)) }
 
   module _ (z : first (piece_rows P C w) ≡ 0) where
-    pub short : length o < cells_of C → FaceComponentsDone P C o w (Short (cells_of C)) o w
+    pub short : length o < cells_of C → FaceComponentsDone P C o w (Err (Short (cells_of C))) o w
     unfolding face_components_of
     short h =
-        let a : face_components_of P C o w ≡ Short (cells_of C) = unless_none _ Refused _ z ∙ rw (lt-ltb _ _ h) refl in
+        let a : face_components_of P C o w ≡ Err (Short (cells_of C)) = unless_none _ _ _ z ∙ rw (lt-ltb _ _ h) refl in
         record { answer = sym a; numbers = rw a (sym (as_lent 9 _ o (λ q. omega arith))); work = rw a (sym (as_lent 9 _ w (λ q. omega arith))) }
 
     pub done : {r : ℕ} {o' w' : List ℕ} → cells_of C ≤ length o → Listed C (take (cells_of C) o) o' (take (16 * cells_of C) w) w' r
-        → FaceComponentsDone P C o w (Done r) (o' ++ drop (cells_of C) o) (w' ++ drop (16 * cells_of C) w)
+        → FaceComponentsDone P C o w (Ok r) (o' ++ drop (cells_of C) o) (w' ++ drop (16 * cells_of C) w)
     unfolding face_components_of
     done {r} {o'} h l =
-        let a : face_components_of P C o w ≡ Done r = unless_none _ Refused _ z ∙ rw (le-ltb _ _ h, ← l.count) refl in
+        let a : face_components_of P C o w ≡ Ok r = unless_none _ _ _ z ∙ rw (le-ltb _ _ h, ← l.count) refl in
         let eo : o' ≡ face_numbers C (cells_of C) = l.numbers ∙ sets_whole _ _ (length_faces C (cells_of C) ∙ sym (length-take-le (cells_of C) o h)) in
         record { answer = sym a; numbers = rw (a, eo) (sym (as_new [] _ o)); work = rw (a, zeros_lent P C w z l.zero) (sym (as_new [] _ w)) }
 
 -- ---- one piece
 
 module _ (P C w : List ℕ) where
-  pub piece_refused : {r : ℕ} → r ≡ first (piece_rows P C w) → r ≢ 0 → OnePieceDone P C w (piece.Refused r) w
+  pub piece_refused : {why : Refusal} → as_number why ≡ first (piece_rows P C w) → OnePieceDone P C w (Err why) w
   unfolding one_piece_of
-  piece_refused {r} e d =
-      let a : one_piece_of P C w ≡ piece.Refused r = rw (← e) (unless_some r piece.Refused _ d) in
-      record { answer = sym a; work = rw a (sym (as_lent r _ w d)) }
+  piece_refused {why} e =
+      let a : one_piece_of P C w ≡ Err why = handed_up (λ e. Err e) _ why e in
+      record { answer = sym a; work = rw a (sym (as_lent _ _ w (above_none why))) }
 
   pub piece_told : {b : Bool} {w' : List ℕ} → first (piece_rows P C w) ≡ 0 → b ≡ eqb (face_count C (cells_of C)) 1
-      → w' ≡ replicate (length (take (16 * cells_of C) w)) 0 → OnePieceDone P C w (piece.Told b) (w' ++ drop (16 * cells_of C) w)
+      → w' ≡ replicate (length (take (16 * cells_of C) w)) 0 → OnePieceDone P C w (Ok b) (w' ++ drop (16 * cells_of C) w)
   unfolding one_piece_of
   piece_told {b} z eb ew =
-      let a : one_piece_of P C w ≡ piece.Told b = unless_none _ piece.Refused _ z ∙ ap piece.Told (sym eb) in
+      let a : one_piece_of P C w ≡ Ok b = unless_none _ _ _ z ∙ rw (← eb) refl in
       record { answer = sym a; work = rw (a, zeros_lent P C w z ew) (sym (as_new [] _ w)) }

@@ -3,7 +3,7 @@
 use Rattle.std.specs.Prelude.{◌≡◌, refl, List, [], ◌∷◌, ◌++◌, map, ℕ, replicate}
 use Rattle.refusals.specs.Rows.{first, unless}
 use Rattle.refusals.specs.Causes.{work_rows}
-use Rattle.refusals.specs.Counted.{number_of, values_of}
+use Rattle.refusals.specs.Refusals.{as_refusal, count_number, count_values}
 use Rattle.mesh.specs.Judged.{count_rows, whole_rows, size_rows, name_rows, mesh_rows}
 use Rattle.lists.specs.Tables.{all_below, among}
 use Rattle.lists.specs.Appearance.{place, noted, seen_of, numbers_of}
@@ -58,11 +58,11 @@ asked c =
     let P = sevens c.points in
     let o = sevens c.numbers in
     let w = sevens c.work in
-    case c.points c.cells c.numbers c.work (number_of (face_components_of P c.cells o w)) (values_of (face_components_of P c.cells o w))
+    case c.points c.cells c.numbers c.work (count_number (face_components_of P c.cells o w)) (count_values (face_components_of P c.cells o w))
     (face_numbers_after P c.cells o w) (face_work_after P c.cells o w)
 
 examples : map asked table ≡ table
-unfolding first unless count_rows whole_rows work_rows size_rows name_rows mesh_rows twice_rows face_rows all_below among place noted seen_of numbers_of any many differ common meets piece_at face_numbers face_count face_components_of
+unfolding first unless as_refusal count_rows whole_rows work_rows size_rows name_rows mesh_rows twice_rows face_rows all_below among place noted seen_of numbers_of any many differ common meets piece_at face_numbers face_count face_components_of
 examples = refl
 
 -- two cells that meet in one vertex

@@ -5,15 +5,7 @@ ghost use Rattle.std.specs.Prelude.{◌≡◌, ◌/◌, length};
 ghost use Rattle.pieces.specs.Parts.{NextAsked, NextJoined, LinkAsked, Linked, NumberAsked, Numbered, Fits, Listed};
 ghost use Rattle.pieces.specs.Step.{FaceComponentsDone, OnePieceDone};
 
-use lists::wide;
-use refusals::Counted;
-
-// The outcome of `one_piece`.
-#[derive(Clone, Copy)]
-pub enum OnePiece {
-    Told(bool),
-    Refused(u32),
-}
+use refusals::{CountError, Refusal};
 
 // Joins the cells of owner i of those that are sorted and of the one before it, where they have one face.
 fn join_next(cells: &[u32], work: &mut [u32], at: usize, i: usize)
@@ -21,8 +13,8 @@ fn join_next(cells: &[u32], work: &mut [u32], at: usize, i: usize)
     ensures { NextJoined cells.now work.old work.new at i }
 {
     let j = i - 1;
-    let p = wide(work[at + j]);
-    let q = wide(work[at + i]);
+    let p = work[at + j] as usize;
+    let q = work[at + i] as usize;
     if !faces::same_face(cells, p, q) {
         return;
     }
@@ -40,15 +32,13 @@ fn link(cells: &[u32], work: &mut [u32], at: usize, points: usize)
     let a = 2 * n;
     let e = a + n / 4;
     links::start(&mut work[a..e]);
-    let mut i: usize = 1;
-    while i < n {
+    for i in 1..n {
         join_next(cells, work, at, i);
-        i += 1;
     }
 }
 
 // Numbers the cells by the first appearance of their groups, and answers how many groups there are. The first half of the work lent are
-// the parents of the cells.
+// the parents of the cells. As one with the loop over first points in `components` it would take a closure, for the line that differs.
 fn number_cells(numbers: &mut [u32], work: &mut [u32]) -> usize
     requires { NumberAsked work.old }
     ensures { Numbered work.old numbers.old numbers.new (length work.old / 2) result }
@@ -56,14 +46,12 @@ fn number_cells(numbers: &mut [u32], work: &mut [u32]) -> usize
     let many = work.len() / 2;
     components::settle(work, many);
     let mut count: usize = 0;
-    let mut i: usize = 0;
-    while i < many {
+    for i in 0..many {
         let k = components::number_at(work, many, i, count);
         if k == count {
             count += 1;
         }
         lists::store(numbers, i, k as u32);
-        i += 1;
     }
     count
 }
@@ -78,7 +66,7 @@ fn number_all(cells: &[u32], numbers: &mut [u32], work: &mut [u32], points: usiz
     let a = 2 * cells.len();
     let e = a + cells.len() / 2;
     let count = number_cells(numbers, &mut work[a..e]);
-    lists::zero(work);
+    work.fill(0);
     count
 }
 
@@ -89,16 +77,13 @@ pub fn face_components(
     cells: &[u32],
     numbers: &mut [u32],
     work: &mut [u32],
-) -> Counted
+) -> Result<u64, CountError>
     ensures { FaceComponentsDone points.now cells.now numbers.old work.old result numbers.new work.new }
 {
-    let number = faces::judge(points.len(), cells, work.len());
-    if number != 0 {
-        return Counted::Refused(number);
-    }
+    faces::judge(points.len(), cells, work.len())?;
     let many = cells.len() / 4;
     if numbers.len() < many {
-        return Counted::Short(many as u64);
+        return Err(CountError::Short(many as u64));
     }
     let need = 16 * many;
     let count = number_all(
@@ -107,19 +92,16 @@ pub fn face_components(
         &mut work[..need],
         points.len() / 3,
     );
-    Counted::Done(count as u64)
+    Ok(count as u64)
 }
 
 // Whether a mesh has exactly one number by faces. Refused with 4, 5, 8 or 17, `work` as lent; else its first 16 entries a cell are zero.
-pub fn one_piece(points: &[u32], cells: &[u32], work: &mut [u32]) -> OnePiece
+pub fn one_piece(points: &[u32], cells: &[u32], work: &mut [u32]) -> Result<bool, Refusal>
     ensures { OnePieceDone points.now cells.now work.old result work.new }
 {
-    let refusal = faces::judge(points.len(), cells, work.len());
-    if refusal != 0 {
-        return OnePiece::Refused(refusal);
-    }
+    let room = work.len();
+    faces::judge(points.len(), cells, room)?;
     let need = 16 * (cells.len() / 4);
-    let mut none = [0u32; 0];
-    let count = number_all(cells, &mut none, &mut work[..need], points.len() / 3);
-    OnePiece::Told(count == 1)
+    let count = number_all(cells, &mut [], &mut work[..need], points.len() / 3);
+    Ok(count == 1)
 }

@@ -1,34 +1,29 @@
-use mathlib.Core.Path.{sym, ◌∙◌}
-use native.Mathlib.Omega.{arith}
+use Rattle.std.proofs.lemmas.Result.{err_from_is_err_and}
+use mathlib.Core.Path.{sym}
 use lib.Seq.{length-take-le}
-use Rattle.faces.proofs.Twice.{faces_fit}
 use Rattle.pieces.proofs.WaysOut.{work_in, asks, refused, short, done}
 use Rattle.pieces.proofs.face_components.Goals as goal
 
-pub returns-then-number-ne0 : goal.returns-then-number-ne0
-returns-then-number-ne0 c = refused _ _ _ _ c.judge-number.ensures c.if-number-ne0.true
+pub returns-in_err-judge : goal.returns-in_err-judge
+returns-in_err-judge c =
+    let p = err_from_is_err_and c.from_residual.result c.from_residual.ensures.1 in
+    rw (p.1, p.2) (refused _ _ _ _ c.in_err-judge.ensures)
 
 pub returns-then-numbers-many : goal.returns-then-numbers-many
-returns-then-numbers-many c = short _ _ _ _ (sym c.judge-number.ensures ∙ c.if-number-ne0.false) c.if-numbers-many.true
-
-pub overflow_mul-need : goal.overflow_mul-need
-overflow_mul-need c = omega (arith, (faces_fit _ _ _ (sym c.judge-number.ensures ∙ c.if-number-ne0.false)).cells.few)
-
-pub slice_bounds-number_all-end-2 : goal.slice_bounds-number_all-end-2
-slice_bounds-number_all-end-2 c = sym (length-take-le _ _ c.if-numbers-many.false)
+returns-then-numbers-many c = short _ _ _ _ (sym c.in_ok-judge.ensures) c.if-numbers-many.true
 
 pub slice_bounds-number_all-end-3 : goal.slice_bounds-number_all-end-3
-slice_bounds-number_all-end-3 c = work_in _ _ _ (sym c.judge-number.ensures ∙ c.if-number-ne0.false)
+slice_bounds-number_all-end-3 c = work_in _ _ _ (sym c.in_ok-judge.ensures)
 
 pub slice_bounds-number_all-end-4 : goal.slice_bounds-number_all-end-4
 slice_bounds-number_all-end-4 c =
-    sym (length-take-le _ _ (work_in _ _ _ (sym c.judge-number.ensures ∙ c.if-number-ne0.false)))
+    sym (length-take-le _ _ (work_in _ _ _ (sym c.in_ok-judge.ensures)))
 
 pub number_all-count-requires : goal.number_all-count-requires
-number_all-count-requires c = asks _ _ _ (sym c.judge-number.ensures ∙ c.if-number-ne0.false)
+number_all-count-requires c = asks _ _ _ (sym c.in_ok-judge.ensures)
 
 pub returns : goal.returns
 returns c =
     done _ _ _ _
-    (sym c.judge-number.ensures ∙ c.if-number-ne0.false)
+    (sym c.in_ok-judge.ensures)
     c.if-numbers-many.false c.number_all-count.ensures
