@@ -26,10 +26,11 @@ use Rattle.plan.specs.declared.Plan.{Plan}
 use Rattle.plan.specs.declared.Planned.TheVariants as planned
 use Rattle.refusals.specs.Rows.{first}
 use Rattle.mesh.specs.Mesh.{cells_of}
-use Rattle.grid.specs.Step.{GridDone}
+use Rattle.grid.specs.Step.{GridDone, so_many}
 use Rattle.grid.specs.Whole.{three_at, Whole}
 use Rattle.grid.specs.declared.Gridded.{Gridded}
-use Rattle.grid.specs.declared.Gridded.TheVariants.{Done}
+use Rattle.grid.specs.declared.GridError.{GridError}
+use Rattle.std.specs.Prelude.{Result}
 use Rattle.tiling.specs.Tables.{six_at, table_six, side_of, box_of}
 use Rattle.tiling.proofs.Sums.{sum_cong_in}
 use Rattle.tiling.proofs.Theorems.{whole, octree_covers, lattice_covers}
@@ -41,8 +42,8 @@ use Rattle.coverage.specs.declared.Uncovered.{Uncovered}
 use Rattle.coverage.proofs.WaysOut.{tables_clear}
 use Rattle.coverage.proofs.Theorems.{part_le, kept_le, marks_le, accepts, coverage_one}
 
-module _ {b : Bounds} {c : Float} {levels : ℕ} {s C T P w : List ℕ} {r : Gridded} {C' T' P' w' : List ℕ} (g : GridDone b c levels s C T P w r C' T' P' w')
-    (p : Plan) (made : plan_of b c levels ≡ planned.Ready p) (n v : ℕ) (done : r ≡ Done n v) (M : List ℕ) (long : length M ≡ n) (kinds : all_at_most 2 M ≡ true) where
+module _ {b : Bounds} {c : Float} {levels : ℕ} {s C T P w : List ℕ} {r : Result Gridded GridError} {C' T' P' w' : List ℕ} (g : GridDone b c levels s C T P w r C' T' P' w')
+    (p : Plan) (made : plan_of b c levels ≡ planned.Ready p) (n v : ℕ) (done : r ≡ so_many n v) (M : List ℕ) (long : length M ≡ n) (kinds : all_at_most 2 M ≡ true) where
   -- the tables as they are handed on
   abbrev triples : List ℕ
   triples = take (3 * v) T'

@@ -30,10 +30,12 @@ use Rattle.plan.specs.declared.Bounds.{Bounds}
 use Rattle.plan.specs.declared.Plan.{Plan}
 use Rattle.plan.specs.declared.Planned.{Planned}
 use Rattle.plan.specs.declared.Planned.TheVariants as planned
-use Rattle.grid.specs.Step.{cell_count, vertex_count, lacks_cells, lacks_vertices, graded_rows, split_rows, fill_rows, table_rows, grid_rows, number_of, values_of, filled_of, refused_with, grid_of, GridDone}
+use Rattle.grid.specs.Step.{cell_count, vertex_count, lacks_cells, lacks_vertices, graded_rows, split_rows, fill_rows, table_rows, grid_rows, number_of, values_of, filled_of, refused_with, grid_of, GridDone, so_many}
 use Rattle.grid.specs.Octrees.{split_tree, IsGradedOctree, NoGradedOctree}
 use Rattle.grid.specs.declared.Gridded.{Gridded}
-use Rattle.grid.specs.declared.Gridded.TheVariants.{Done, Refused, NoCells, NoVertices}
+use Rattle.std.specs.Prelude.{Result, Err}
+use Rattle.grid.specs.declared.GridError.{GridError}
+use Rattle.grid.specs.declared.GridError.TheVariants.{Refused, NoCells, NoVertices}
 use Rattle.grid.proofs.WaysOut.{graded}
 use Rattle.grid.proofs.Whole.{Answered, answered}
 
@@ -42,14 +44,14 @@ fill_number : (p : Plan) (s : List ℕ) (cells triples points work : ℕ) → nu
 unfolding filled_of fill_rows first
 fill_number p s cells triples points work = go (lacks_cells (cell_count p s) cells work) (lacks_vertices (vertex_count p s) triples points)
   where
-    go : (t u : Bool) → number_of (cond t (NoCells (cell_count p s)) (cond u (NoVertices (cell_count p s) (vertex_count p s)) (Done (cell_count p s) (vertex_count p s)))) ≡ cond t 9 (cond u 9 0)
+    go : (t u : Bool) → number_of (cond t (Err (NoCells (cell_count p s))) (cond u (Err (NoVertices (cell_count p s) (vertex_count p s))) (so_many (cell_count p s) (vertex_count p s)))) ≡ cond t 9 (cond u 9 0)
     go true u = refl
     go false true = refl
     go false false = refl
 
 -- the number with a plan: never a 4
 module _ (p : Plan) (s : List ℕ) (cells triples points work : ℕ) where
-  abbrev table_answer : Gridded
+  abbrev table_answer : Result Gridded GridError
   table_answer = unless (first (split_rows p s)) refused_with (filled_of p s cells triples points work)
 
   table_number : number_of table_answer ≡ first (table_rows p s cells triples points work)
@@ -69,7 +71,7 @@ module _ (b : Bounds) (c : Float) (levels : ℕ) (s C T P w : List ℕ) where
   number_is = go (plan_of b c levels) (refusals.number_is b c levels)
     where
       go : (a : Planned) → plan.number_of a ≡ first (plan_rows b c levels)
-          → number_of (on_plan a Refused (λ p. unless (first (split_rows p s)) refused_with (filled_of p s (length C) (length T) (length P) (length w))))
+          → number_of (on_plan a (λ why. Err (Refused why)) (λ p. unless (first (split_rows p s)) refused_with (filled_of p s (length C) (length T) (length P) (length w))))
           ≡ first (plan_rows b c levels ++ on_plan a (λ why. []) (λ p. table_rows p s (length C) (length T) (length P) (length w)))
       go (planned.Ready p) e =
           table_number p s (length C) (length T) (length P) (length w)
@@ -90,15 +92,15 @@ module _ (b : Bounds) (c : Float) (levels : ℕ) (s C T P w : List ℕ) where
       rise (planned.Refused why) = unfold rising in unfold plan_rows in refl
 
   -- a 4 of the grid is the plan's, and names what that names
-  pub grid_fault : {r : Gridded} {C' T' P' w' : List ℕ} → GridDone b c levels s C T P w r C' T' P' w' → number_of r ≡ 4
+  pub grid_fault : {r : Result Gridded GridError} {C' T' P' w' : List ℕ} → GridDone b c levels s C T P w r C' T' P' w' → number_of r ≡ 4
       → (plan.number_of (plan_of b c levels) ≡ 4) × (values_of r ≡ plan.fault_of (plan_of b c levels) ∷ [])
   unfolding grid_of
   grid_fault g =
-      refusals.handed_up number_of values_of Refused (λ p. table_answer p s (length C) (length T) (length P) (length w)) b c levels (λ why. refl) (λ why. refl)
+      refusals.handed_up number_of values_of (λ why. Err (Refused why)) (λ p. table_answer p s (length C) (length T) (length P) (length w)) b c levels (λ why. refl) (λ why. refl)
       (λ p. table_not_four p s (length C) (length T) (length P) (length w)) g.answer
 
   -- the contract allows one outcome
-  pub grid_one : Determined (λ (z : Gridded × List ℕ × List ℕ × List ℕ × List ℕ). GridDone b c levels s C T P w z.0 z.1 z.2 z.3 z.4)
+  pub grid_one : Determined (λ (z : Result Gridded GridError × List ℕ × List ℕ × List ℕ × List ℕ). GridDone b c levels s C T P w z.0 z.1 z.2 z.3 z.4)
   grid_one = determined (λ z a i. (a.answer i, a.cells i, a.triples i, a.points i, a.work i))
 
 -- ---- the octree
@@ -119,7 +121,7 @@ seven true true true false false = (λ e. absurd (omega arith), λ h. clash refl
 seven true false g t u = (λ e. absurd (omega arith), λ h. clash h.1 refl)
 seven false b g t u = (λ e. absurd (omega arith), λ h. clash h.0 refl)
 
-module _ (b : Bounds) (c : Float) (levels : ℕ) (s C T P w : List ℕ) {r : Gridded} {C' T' P' w' : List ℕ} (d : GridDone b c levels s C T P w r C' T' P' w') where
+module _ (b : Bounds) (c : Float) (levels : ℕ) (s C T P w : List ℕ) {r : Result Gridded GridError} {C' T' P' w' : List ℕ} (d : GridDone b c levels s C T P w r C' T' P' w') where
   number : number_of r ≡ first (grid_rows b c levels s C T P w)
   number = ap number_of d.answer ∙ number_is b c levels s C T P w
 
@@ -169,7 +171,7 @@ module _ (b : Bounds) (c : Float) (levels : ℕ) (s C T P w : List ℕ) {r : Gri
 
   -- an answer is of a graded octree, and wherever a leaf of it meets a coarser one, of the next level, the search for the centre of the coarse
   -- face among the corners of its own finds it (rule 4.7)
-  module _ (n v : ℕ) (e : r ≡ Done n v) where
+  module _ (n v : ℕ) (e : r ≡ so_many n v) where
     of : (p : Plan) × Answered b c levels s n v p
     of = answered b c levels s C T P w n v (sym d.answer ∙ e)
 

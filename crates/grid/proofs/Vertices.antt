@@ -1,7 +1,7 @@
 -- The vertices of an octree as tables, key by key. Assumes nothing.
 use mathlib.Core.Path.{◌≡◌, refl, sym, ap, ◌∙◌}
 use mathlib.Core.List.{List, [], ◌∷◌, ◌++◌, map}
-use Prim.Native.Nat.{ℕ, zero, suc, ◌*◌, ◌≤◌}
+use Prim.Native.Nat.{ℕ, zero, suc, ◌*◌, ◌≤◌, ◌<◌}
 use native.Mathlib.Omega.{arith}
 use lib.ListN.{length, get_or, take}
 use lib.Seq.{get_or-take, length-take-le}
@@ -29,6 +29,10 @@ spread_keys g v w h =
     spread_run g (take v w)
     ∙ ap (λ (n : ℕ). run n (λ i. three_of g (get_or (take v w) i 0)) 0) (length-take-le v w h)
     ∙ run_same v _ _ 0 (λ i a b. ap (three_of g) (get_or-take v w i 0 (omega arith)))
+
+-- a key among the first v, which are lent as a part of the table
+pub key_at : (w : List ℕ) (v i : ℕ) → v ≤ length w → i < length (take v w) → (i < v) × (get_or (take v w) i 0 ≡ get_or w i 0)
+key_at w v i h b = let q : i < v = omega (arith, length-take-le v w h) in (q, get_or-take v w i 0 q)
 
 pub key_room : (g : Axis → ℕ → ℕ) (v : ℕ) (w o : List ℕ) → 3 * v ≤ length o → Room o 0 (key_table g v w)
 unfolding three_of

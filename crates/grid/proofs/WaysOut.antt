@@ -20,8 +20,10 @@ use Rattle.lattice.specs.Lattice.{lattice_cells, lattice_vertices, lattice_table
 use Rattle.plan.specs.Vertices.{dims_of, triple_at, point_at, spread}
 use Rattle.lattice.specs.Parts.{vertices_of}
 use Rattle.grid.specs.Grid.{grid_cells, grid_vertices, vertex_number, cell_table, triple_table, point_table}
-use Rattle.grid.specs.Step.{cell_count, vertex_count, lacks_cells, lacks_vertices, graded_rows, split_rows, filled_of, refused_with, grid_of, Filled, GridDone}
-use Rattle.grid.specs.declared.Gridded.TheVariants.{Done, Refused, NoCells, NoVertices}
+use Rattle.grid.specs.Step.{cell_count, vertex_count, lacks_cells, lacks_vertices, graded_rows, split_rows, filled_of, refused_with, grid_of, Filled, GridDone, so_many}
+use Rattle.std.specs.Prelude.{Result, Err}
+use Rattle.grid.specs.declared.GridError.{GridError}
+use Rattle.grid.specs.declared.GridError.TheVariants.{Refused, NoCells, NoVertices}
 use lib.Ieee.{Float}
 use Rattle.refusals.specs.Rows.{first, cause_at, proper}
 use Rattle.refusals.specs.Causes.{each_rows, answer_rows}
@@ -77,11 +79,11 @@ vertices_room v triples points e =
 -- ---- the ways out
 
 module _ (p : Plan) (s C T P w : List ℕ) {n : ℕ} (en : n ≡ cell_count p s) where
-  pub no_cells : lacks_cells n (length C) (length w) ≡ true → Filled p s C T P w (NoCells n) C T P w
+  pub no_cells : lacks_cells n (length C) (length w) ≡ true → Filled p s C T P w (Err (NoCells n)) C T P w
   unfolding filled_of
   no_cells h =
       let g : lacks_cells (cell_count p s) (length C) (length w) ≡ true = ap (λ (k : ℕ). lacks_cells k (length C) (length w)) (sym en) ∙ h in
-      record { answer = ap NoCells en ∙ sym (rw g refl); cells = refl; triples = refl; points = refl; work = refl }
+      record { answer = ap (λ (k : ℕ). Err (NoCells k)) en ∙ sym (rw g refl); cells = refl; triples = refl; points = refl; work = refl }
 
   module _ {v : ℕ} (ev : v ≡ vertex_count p s) (h : lacks_cells n (length C) (length w) ≡ false) where
     g : lacks_cells (cell_count p s) (length C) (length w) ≡ false
@@ -93,7 +95,7 @@ module _ (p : Plan) (s C T P w : List ℕ) {n : ℕ} (en : n ≡ cell_count p s)
         ap (λ (l : List ℕ). l ++ drop (4 * n) w) (e ∙ ap (λ (k : ℕ). replicate k 0) q)
 
     pub no_vertices : {w' : List ℕ} → lacks_vertices v (length T) (length P) ≡ true → w' ≡ replicate (length (take (4 * n) w)) 0
-        → Filled p s C T P w (NoVertices n v) C T P (w' ++ drop (4 * n) w)
+        → Filled p s C T P w (Err (NoVertices n v)) C T P (w' ++ drop (4 * n) w)
     unfolding filled_of
     no_vertices k e =
         let f : lacks_vertices (vertex_count p s) (length T) (length P) ≡ true = ap (λ (i : ℕ). lacks_vertices i (length T) (length P)) (sym ev) ∙ k in
@@ -101,7 +103,7 @@ module _ (p : Plan) (s C T P w : List ℕ) {n : ℕ} (en : n ≡ cell_count p s)
 
     pub done : {C' T' P' w' : List ℕ} → lacks_vertices v (length T) (length P) ≡ false → C' ≡ cell_table p s → T' ≡ triple_table p s → P' ≡ point_table p s
         → w' ≡ replicate (length (take (4 * n) w)) 0
-        → Filled p s C T P w (Done n v) (C' ++ drop (4 * n) C) (T' ++ drop (3 * v) T) (P' ++ drop (3 * v) P) (w' ++ drop (4 * n) w)
+        → Filled p s C T P w (so_many n v) (C' ++ drop (4 * n) C) (T' ++ drop (3 * v) T) (P' ++ drop (3 * v) P) (w' ++ drop (4 * n) w)
     unfolding filled_of
     done k ec et ep e =
         let f : lacks_vertices (vertex_count p s) (length T) (length P) ≡ false = ap (λ (i : ℕ). lacks_vertices i (length T) (length P)) (sym ev) ∙ k in
@@ -153,14 +155,14 @@ module _ (p : Plan) (s C T P w : List ℕ) {n v : ℕ} (en : n ≡ cell_count p 
   left_zero : w' ≡ replicate (length w) 0
   left_zero = ew ∙ ap (λ (k : ℕ). replicate k 0) lw
 
-  pub stocked_none : lacks_vertices v (length T) (length P) ≡ true → Stocked p s C T P w (NoVertices n v) C T P w'
+  pub stocked_none : lacks_vertices v (length T) (length P) ≡ true → Stocked p s C T P w (Err (NoVertices n v)) C T P w'
   stocked_none h =
       let f : lacks_vertices (vertex_count p s) (length T) (length P) ≡ true = ap (λ (i : ℕ). lacks_vertices i (length T) (length P)) (sym ev) ∙ h in
       record { answer = rw (en, ev, f) refl; cells = refl; triples = refl; points = refl; work = left_zero }
 
   pub stocked_done : {C' T' P' : List ℕ} → lacks_vertices v (length T) (length P) ≡ false → length C ≡ 4 * cell_count p s
       → C' ≡ cell_table p s → T' ≡ triple_table p s → P' ≡ point_table p s
-      → Stocked p s C T P w (Done n v) C' (T' ++ drop (3 * v) T) (P' ++ drop (3 * v) P) w'
+      → Stocked p s C T P w (so_many n v) C' (T' ++ drop (3 * v) T) (P' ++ drop (3 * v) P) w'
   stocked_done h lc ec et ep =
       let f : lacks_vertices (vertex_count p s) (length T) (length P) ≡ false = ap (λ (i : ℕ). lacks_vertices i (length T) (length P)) (sym ev) ∙ h in
       let b : 3 * v ≡ length (triple_table p s) = omega (arith, ev, length_triples p s) in
@@ -175,7 +177,7 @@ module _ (p : Plan) (s C T P w : List ℕ) {n v : ℕ} (en : n ≡ cell_count p 
       }
 
 -- the parts that were lent, back in their tables
-module _ (p : Plan) (s C T P w : List ℕ) {n : ℕ} (en : n ≡ cell_count p s) (h : lacks_cells n (length C) (length w) ≡ false) {r : Gridded} {C' T' P' w' : List ℕ}
+module _ (p : Plan) (s C T P w : List ℕ) {n : ℕ} (en : n ≡ cell_count p s) (h : lacks_cells n (length C) (length w) ≡ false) {r : Result Gridded GridError} {C' T' P' w' : List ℕ}
     (st : Stocked p s (take (4 * n) C) T P (take (4 * n) w) r C' T' P' w') where
   abbrev lacks : Bool
   lacks = lacks_vertices (vertex_count p s) (length T) (length P)
@@ -195,7 +197,7 @@ module _ (p : Plan) (s C T P w : List ℕ) {n : ℕ} (en : n ≡ cell_count p s)
     where
       go : (b : Bool) → lacks_vertices (vertex_count p s) (length T) (length P) ≡ b → Filled p s C T P w r (C' ++ drop (4 * n) C) T' P' (w' ++ drop (4 * n) w)
       go true f =
-          let e : r ≡ NoVertices (cell_count p s) (vertex_count p s) = st.answer ∙ rw f refl in
+          let e : r ≡ Err (NoVertices (cell_count p s) (vertex_count p s)) = st.answer ∙ rw f refl in
           let c : C' ≡ take (4 * n) C = rw e at st.cells in
           record {
             answer = e ∙ sym (rw (not_cells, f) refl);
@@ -205,7 +207,7 @@ module _ (p : Plan) (s C T P w : List ℕ) {n : ℕ} (en : n ≡ cell_count p s)
             work = rw e zeroed_is;
           }
       go false f =
-          let e : r ≡ Done (cell_count p s) (vertex_count p s) = st.answer ∙ rw f refl in
+          let e : r ≡ so_many (cell_count p s) (vertex_count p s) = st.answer ∙ rw f refl in
           let l : length (cell_table p s) ≡ 4 * n = length_cells p s ∙ ap (λ (k : ℕ). 4 * k) (sym en) in
           let q : length (take (4 * n) C) ≡ 4 * n = length-take-le (4 * n) C (cells_room n (length C) (length w) h).0 in
           let z : drop (length (cell_table p s)) (take (4 * n) C) ≡ [] = drop_of_length-le (take (4 * n) C) {i = length (cell_table p s)} (omega arith) in
@@ -263,10 +265,10 @@ module _ (b : Bounds) (c : Float) (levels : ℕ) (p : Plan) (e : plan_of b c lev
 -- ---- the step
 
 module _ (b : Bounds) (c : Float) (levels : ℕ) (s C T P w : List ℕ) where
-  pub plan_refused : {m k : Refusal} → plan_of b c levels ≡ planned.Refused m → k ≡ m → GridDone b c levels s C T P w (Refused k) C T P w
+  pub plan_refused : {m k : Refusal} → plan_of b c levels ≡ planned.Refused m → k ≡ m → GridDone b c levels s C T P w (Err (Refused k)) C T P w
   unfolding grid_of
   plan_refused {m} {k} e q =
-      let a : grid_of b c levels s C T P w ≡ Refused k = rw (e, q) refl in
+      let a : grid_of b c levels s C T P w ≡ Err (Refused k) = rw (e, q) refl in
       record { answer = sym a; cells = rw a refl; triples = rw a refl; points = rw a refl; work = rw a refl }
 
   module _ (p : Plan) (e : plan_of b c levels ≡ planned.Ready p) where
@@ -276,7 +278,7 @@ module _ (b : Bounds) (c : Float) (levels : ℕ) (s C T P w : List ℕ) where
         let a : grid_of b c levels s C T P w ≡ refused_with k = rw (e, ← q) (unless_some k refused_with _ d) in
         record { answer = sym a; cells = rw a refl; triples = rw a refl; points = rw a refl; work = rw a refl }
 
-    pub filled : {r : Gridded} {C' T' P' w' : List ℕ} → first (split_rows p s) ≡ 0 → Filled p s C T P w r C' T' P' w' → GridDone b c levels s C T P w r C' T' P' w'
+    pub filled : {r : Result Gridded GridError} {C' T' P' w' : List ℕ} → first (split_rows p s) ≡ 0 → Filled p s C T P w r C' T' P' w' → GridDone b c levels s C T P w r C' T' P' w'
     unfolding grid_of
     filled {r} z f =
         let a : grid_of b c levels s C T P w ≡ r = rw e (unless_none (first (split_rows p s)) refused_with _ z) ∙ sym f.answer in
@@ -289,6 +291,6 @@ module _ (b : Bounds) (c : Float) (levels : ℕ) (s C T P w : List ℕ) where
         }
 
     -- a lattice has an empty split table
-    pub filled_lattice : {r : Gridded} {C' T' P' w' : List ℕ} → first (split_rows p s) ≡ 0 → levels ≡ 0 → Filled p [] C T P w r C' T' P' w' → GridDone b c levels s C T P w r C' T' P' w'
+    pub filled_lattice : {r : Result Gridded GridError} {C' T' P' w' : List ℕ} → first (split_rows p s) ≡ 0 → levels ≡ 0 → Filled p [] C T P w r C' T' P' w' → GridDone b c levels s C T P w r C' T' P' w'
     filled_lattice {r} {C'} {T'} {P'} {w'} z g f =
         filled z (subst (λ (x : List ℕ). Filled p x C T P w r C' T' P' w') (sym (empty b c levels p e s z g)) f)

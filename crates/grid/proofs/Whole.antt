@@ -32,10 +32,12 @@ use Rattle.lattice.proofs.Formulas.{cells_count, vertices_count}
 use Rattle.lattice.proofs.Named.{named, listed}
 use Rattle.plan.specs.Vertices.{dims_of, triple_at, point_at, spread}
 use Rattle.grid.specs.Grid.{grid_vertices, cell_table, triple_table, point_table}
-use Rattle.grid.specs.Step.{cell_count, vertex_count, lacks_cells, lacks_vertices, split_rows, filled_of, refused_with, grid_of, result_after, GridDone}
+use Rattle.grid.specs.Step.{cell_count, vertex_count, lacks_cells, lacks_vertices, split_rows, filled_of, refused_with, grid_of, values_of, result_after, GridDone, so_many}
 use Rattle.grid.specs.Whole.{along, three_at, OctreeVertices, LatticeVertices, Whole}
 use Rattle.grid.specs.declared.Gridded.{Gridded}
-use Rattle.grid.specs.declared.Gridded.TheVariants.{Done, Refused, NoCells, NoVertices}
+use Rattle.std.specs.Prelude.{Result, Ok, Err}
+use Rattle.grid.specs.declared.GridError.{GridError}
+use Rattle.grid.specs.declared.GridError.TheVariants.{Refused, NoCells, NoVertices}
 use Rattle.grid.proofs.WaysOut.{length_cells, length_triples, length_points, lattice_cell_count, lattice_vertex_count, taken}
 use Rattle.grid.proofs.Numbers.{cells_name, cells_below, vertices_once, vertices_rise, vertices_used}
 
@@ -112,17 +114,20 @@ module _ (p : Plan) (s C T P : List ℕ) (h : 1 ≤ p.levels → Taken s (roots_
 
 -- ---- the step
 
-refused_not : {why : Refusal} {n v : ℕ} → Refused why ≡ Done n v → ⊥
+refused_not : {why : Refusal} {n v : ℕ} → Err (Refused why) ≡ so_many n v → ⊥
 refused_not e = let clash : ◌≡◌ {A = ℕ} 0 1 = cc in absurd (omega arith)
 
-filled_counts : (p : Plan) (s : List ℕ) (cells triples points work n v : ℕ) → filled_of p s cells triples points work ≡ Done n v → (n ≡ cell_count p s) × (v ≡ vertex_count p s)
+filled_counts : (p : Plan) (s : List ℕ) (cells triples points work n v : ℕ) → filled_of p s cells triples points work ≡ so_many n v → (n ≡ cell_count p s) × (v ≡ vertex_count p s)
 unfolding filled_of
 filled_counts p s cells triples points work n v = go (lacks_cells (cell_count p s) cells work) (lacks_vertices (vertex_count p s) triples points) (cell_count p s) (vertex_count p s)
   where
-    go : (t u : Bool) (m l : ℕ) → cond t (NoCells m) (cond u (NoVertices m l) (Done m l)) ≡ Done n v → (n ≡ m) × (v ≡ l)
+    go : (t u : Bool) (m l : ℕ) → cond t (Err (NoCells m)) (cond u (Err (NoVertices m l)) (so_many m l)) ≡ so_many n v → (n ≡ m) × (v ≡ l)
     go true u m l e = let clash : ◌≡◌ {A = ℕ} 0 1 = cc in absurd (omega arith)
     go false true m l e = let clash : ◌≡◌ {A = ℕ} 0 1 = cc in absurd (omega arith)
-    go false false m l e = (cc, cc)
+    go false false m l e = (
+      sym (ap (λ (r : Result Gridded GridError). get_or (values_of r) 0 0) e),
+      sym (ap (λ (r : Result Gridded GridError). get_or (values_of r) 1 0) e),
+    )
 
 -- what an answer is of: a plan, and a split table that it does not refuse
 pub record Answered (b : Bounds) (c : Float) (levels : ℕ) (s : List ℕ) (n v : ℕ) (p : Plan) : Type 0 where
@@ -132,14 +137,14 @@ pub record Answered (b : Bounds) (c : Float) (levels : ℕ) (s : List ℕ) (n v 
   pub vertices : v ≡ vertex_count p s
 
 module _ (b : Bounds) (c : Float) (levels : ℕ) (s C T P w : List ℕ) where
-  pub answered : (n v : ℕ) → grid_of b c levels s C T P w ≡ Done n v → (p : Plan) × Answered b c levels s n v p
+  pub answered : (n v : ℕ) → grid_of b c levels s C T P w ≡ so_many n v → (p : Plan) × Answered b c levels s n v p
   unfolding grid_of
   answered n v = go (plan_of b c levels) refl
     where
-      rest : Plan → Gridded
+      rest : Plan → Result Gridded GridError
       rest p = filled_of p s (length C) (length T) (length P) (length w)
 
-      go : (a : Planned) → plan_of b c levels ≡ a → on_plan a Refused (λ p. unless (first (split_rows p s)) refused_with (filled_of p s (length C) (length T) (length P) (length w))) ≡ Done n v
+      go : (a : Planned) → plan_of b c levels ≡ a → on_plan a (λ why. Err (Refused why)) (λ p. unless (first (split_rows p s)) refused_with (filled_of p s (length C) (length T) (length P) (length w))) ≡ so_many n v
           → (p : Plan) × Answered b c levels s n v p
       go (planned.Refused k) q e = absurd (refused_not e)
       go (planned.Ready p) q e = (p, accept (eq_or (first (split_rows p s)) 0))
@@ -150,9 +155,9 @@ module _ (b : Bounds) (c : Float) (levels : ℕ) (s C T P w : List ℕ) where
               record { ready = q; accepted = z; cells = f.0; vertices = f.1 }
           accept (inr k) = absurd (refused_not (sym (unless_some (first (split_rows p s)) refused_with (rest p) k) ∙ e))
 
-  module _ {r : Gridded} {C' T' P' w' : List ℕ} (g : GridDone b c levels s C T P w r C' T' P' w') where
-    module _ (n v : ℕ) (d : r ≡ Done n v) where
-      is_done : grid_of b c levels s C T P w ≡ Done n v
+  module _ {r : Result Gridded GridError} {C' T' P' w' : List ℕ} (g : GridDone b c levels s C T P w r C' T' P' w') where
+    module _ (n v : ℕ) (d : r ≡ so_many n v) where
+      is_done : grid_of b c levels s C T P w ≡ so_many n v
       is_done = sym g.answer ∙ d
 
       abbrev p : Plan
@@ -179,14 +184,12 @@ module _ (b : Bounds) (c : Float) (levels : ℕ) (s C T P w : List ℕ) where
       nothing_in_part = (p, is.ready, whole p s _ _ _ takes is.cells is.vertices tables.0 tables.1 tables.2)
 
     -- any other outcome: the result tables are as lent
-    pub else_as_lent : ((n v : ℕ) → r ≢ Done n v) → (C' ≡ C) × (T' ≡ T) × (P' ≡ P)
+    pub else_as_lent : ((n v : ℕ) → r ≢ so_many n v) → (C' ≡ C) × (T' ≡ T) × (P' ≡ P)
     else_as_lent other = (g.cells ∙ lent _ C, g.triples ∙ lent _ T, g.points ∙ lent _ P)
       where
         lent : (new old : List ℕ) → result_after (grid_of b c levels s C T P w) new old ≡ old
         lent new old = go (grid_of b c levels s C T P w) g.answer
           where
-            go : (x : Gridded) → r ≡ x → result_after x new old ≡ old
-            go (Done n v) e = absurd (other n v e)
-            go (Refused k) e = refl
-            go (NoCells n) e = refl
-            go (NoVertices n v) e = refl
+            go : (x : Result Gridded GridError) → r ≡ x → result_after x new old ≡ old
+            go (Ok k) e = absurd (other k.cells k.vertices e)
+            go (Err k) e = refl

@@ -1,5 +1,5 @@
 -- What the parts of the code ask and give.
-use Rattle.std.specs.Prelude.{◌≡◌, cond, List, [], ◌∷◌, ℕ, ◌+◌, ◌*◌, ◌≤◌, ◌<◌, length, get_or, take, drop, replicate}
+use Rattle.std.specs.Prelude.{◌≡◌, cond, List, [], ◌∷◌, ℕ, ◌+◌, ◌*◌, ◌≤◌, ◌<◌, length, get_or, take, drop, replicate, Result, Err}
 use Rattle.lists.specs.Runs.{run}
 use Rattle.space.specs.Space.{Axis, ax, ay, az}
 use Rattle.space.specs.Levels.{most_octants}
@@ -11,9 +11,10 @@ use Rattle.octree.specs.declared.Roots.{Roots}
 use Rattle.sides.specs.Parts.{Taken}
 use Rattle.leaves.specs.Parts.{leaves_in}
 use Rattle.grid.specs.Grid.{vertex_keys, cell_table, triple_table, point_table}
-use Rattle.grid.specs.Step.{cell_count, vertex_count, lacks_vertices, result_after}
+use Rattle.grid.specs.Step.{cell_count, vertex_count, lacks_vertices, so_many, result_after}
 use Rattle.grid.specs.declared.Gridded.{Gridded}
-use Rattle.grid.specs.declared.Gridded.TheVariants.{Done, NoVertices}
+use Rattle.grid.specs.declared.GridError.{GridError}
+use Rattle.grid.specs.declared.GridError.TheVariants.{NoVertices}
 
 -- the roots of a plan
 abbrev pub roots_in : Plan → Roots
@@ -55,9 +56,9 @@ pub record Fillable (p : Plan) (s : List ℕ) (n : ℕ) (C w : List ℕ) : Type 
   pub cells : length C ≡ 4 * cell_count p s
 
 -- stored where there is room for the vertices, and the work left zero
-pub record Stocked (p : Plan) (s C T P w : List ℕ) (r : Gridded) (C' T' P' w' : List ℕ) : Type 0 where
+pub record Stocked (p : Plan) (s C T P w : List ℕ) (r : Result Gridded GridError) (C' T' P' w' : List ℕ) : Type 0 where
   pub answer :
-      r ≡ cond (lacks_vertices (vertex_count p s) (length T) (length P)) (NoVertices (cell_count p s) (vertex_count p s)) (Done (cell_count p s) (vertex_count p s))
+      r ≡ cond (lacks_vertices (vertex_count p s) (length T) (length P)) (Err (NoVertices (cell_count p s) (vertex_count p s))) (so_many (cell_count p s) (vertex_count p s))
   pub cells : C' ≡ result_after r (cell_table p s) C
   pub triples : T' ≡ result_after r (triple_table p s) T
   pub points : P' ≡ result_after r (point_table p s) P

@@ -3,6 +3,9 @@
 
 ghost use Rattle.std.specs.Prelude.{◌≡◌, ◌*◌, ◌<◌, ◌≤◌, [], length};
 ghost use Rattle.refusals.specs.Rows.{first};
+ghost use Rattle.refusals.specs.Refusals.{as_number, number_in};
+ghost use Rattle.grid.specs.declared.GridError.TheVariants.{Refused};
+ghost use Rattle.plan.specs.declared.Refusal.TheVariants.{Number};
 ghost use Rattle.grid.specs.Step.{lacks_cells, lacks_vertices, split_rows, Filled, GridDone};
 ghost use Rattle.sides.specs.Parts.{Taken};
 ghost use Rattle.space.specs.Levels.{most_octants};
@@ -12,39 +15,50 @@ ghost use Rattle.plan.specs.Vertices.{triple_at, point_at};
 ghost use Rattle.std.proofs.lemmas.List.Edits.{sets};
 
 use octree::Roots;
-use plan::{Bounds, Plan, Planned, Refusal};
+use plan::{Bounds, Plan, Planned};
+use refusals::Refusal;
 
-// The outcome of `grid`: how many cells and vertices there are; refused, as a plan is; no room or work for so many cells;
-// no room for so many vertices.
-#[derive(Clone, Copy)]
-pub enum Gridded {
-    Done(u64, u64),
-    Refused(Refusal),
+// How many cells and vertices there are.
+#[derive(Clone, Copy, Debug, PartialEq, Eq)]
+pub struct Gridded {
+    pub cells: u64,
+    pub vertices: u64,
+}
+
+// Why `grid` gives none: refused, as a plan is; no room or work for so many cells; no room for the vertices of so many cells.
+#[derive(Clone, Copy, Debug, PartialEq, Eq)]
+pub enum GridError {
+    Refused(plan::Refusal),
     NoCells(u64),
     NoVertices(u64, u64),
 }
 
+impl From<Refusal> for GridError {
+    ghost from_gives = { λ why r. r ≡ Refused (Number (as_number why)) };
+
+    fn from(why: Refusal) -> GridError {
+        GridError::Refused(plan::Refusal::Number(why.number()))
+    }
+}
+
 // Whether a table of cells or of work is too short for n cells.
+#[tactic(auto, unfolding(crate::specs::Step::lacks_cells))]
 fn lacks_cells(n: usize, cells: usize, work: usize) -> bool
     requires { n < 4611686018427387904 }
     ensures { result ≡ lacks_cells n cells work }
 {
-    if cells / 4 < n {
-        return true;
-    }
-    work < 4 * n
+    cells / 4 < n || work < 4 * n
 }
 
 // Whether a table of triples or of points is too short for v vertices.
+#[tactic(auto, unfolding(crate::specs::Step::lacks_vertices))]
 fn lacks_vertices(v: usize, triples: usize, points: usize) -> bool
     ensures { result ≡ lacks_vertices v triples points }
 {
-    if triples / 3 < v {
-        return true;
-    }
-    points / 3 < v
+    triples / 3 < v || points / 3 < v
 }
 
+// The roots of a plan, as `refine` has them: plan and octree stand side by side, and neither can hold the conversion.
 fn roots_of(p: Plan) -> Roots
     ensures { result ≡ roots_in p }
 {
@@ -56,24 +70,24 @@ fn roots_of(p: Plan) -> Roots
     }
 }
 
-// The number that a split table is refused with: 5, 6, 7, or 0.
-fn judge(split: &[u8], p: Plan) -> u32
+// What a split table is refused with: 5, 6, 7, or nothing.
+fn judge(split: &[u8], p: Plan) -> Result<(), Refusal>
     requires { Planful p }
-    ensures { result ≡ first (split_rows p split.now) }
+    ensures { number_in result ≡ first (split_rows p split.now) }
 {
     if split.len() != p.octants as usize {
-        return 5;
+        return Err(Refusal::Length);
     }
     if !lists::all_at_most(split, 1) {
-        return 6;
+        return Err(Refusal::Byte);
     }
     if p.levels == 0 {
-        return 0;
+        return Ok(());
     }
     if !balance::is_graded(split, roots_of(p)) {
-        return 7;
+        return Err(Refusal::Ungraded);
     }
-    0
+    Ok(())
 }
 
 // The lattice of a plan.
@@ -83,7 +97,7 @@ fn lattice_grid(
     triples: &mut [u32],
     points: &mut [u32],
     work: &mut [u64],
-) -> Gridded
+) -> Result<Gridded, GridError>
     requires { Planful p × (p.levels ≡ 0) }
     ensures { Filled p [] cells.old triples.old points.old work.old result cells.new triples.new points.new work.new }
 {
@@ -91,17 +105,20 @@ fn lattice_grid(
     let many = n.cells;
     let vertices = n.vertices;
     if lacks_cells(many, cells.len(), work.len()) {
-        return Gridded::NoCells(many as u64);
+        return Err(GridError::NoCells(many as u64));
     }
     let need = 4 * many;
-    lists::zero64(&mut work[..need]);
+    work[..need].fill(0);
     if lacks_vertices(vertices, triples.len(), points.len()) {
-        return Gridded::NoVertices(many as u64, vertices as u64);
+        return Err(GridError::NoVertices(many as u64, vertices as u64));
     }
     lattice::store_cells(&mut cells[..need], p.nx, p.ny, p.nz);
     let most = 3 * vertices;
     lattice::store_vertices(&mut triples[..most], &mut points[..most], p);
-    Gridded::Done(many as u64, vertices as u64)
+    Ok(Gridded {
+        cells: many as u64,
+        vertices: vertices as u64,
+    })
 }
 
 // The first v keys as triples and as points.
@@ -110,20 +127,17 @@ fn store_vertices(keys: &[u64], v: usize, triples: &mut [u32], points: &mut [u32
     ensures { (triples.new ≡ sets triples.old 0 (key_table triple_at v keys.now)) × (points.new ≡ sets points.old 0 (key_table (point_at p) v keys.now)) }
 {
     let mut here: usize = 0;
-    let mut i: usize = 0;
-    while i < v {
-        let key = keys[i];
-        let t = vertex_keys::unpack(key);
+    for key in &keys[..v] {
+        let t = vertex_keys::unpack(*key);
         let x = t.x as u32;
         let y = t.y as u32;
         let z = t.z as u32;
         let px = plan::place(p.ox, p.half, x);
         let py = plan::place(p.oy, p.half, y);
         let pz = plan::place(p.oz, p.half, z);
-        lists::store3(triples, here, x, y, z);
-        lists::store3(points, here, px, py, pz);
+        lists::store_all(triples, here, [x, y, z]);
+        lists::store_all(points, here, [px, py, pz]);
         here += 3;
-        i += 1;
     }
 }
 
@@ -151,7 +165,7 @@ fn octree_fill(
     triples: &mut [u32],
     points: &mut [u32],
     work: &mut [u64],
-) -> Gridded
+) -> Result<Gridded, GridError>
     requires { Fillable p split.now many cells.old work.old }
     ensures { Stocked p split.now cells.old triples.old points.old work.old result cells.new triples.new points.new work.new }
 {
@@ -159,14 +173,17 @@ fn octree_fill(
     let count = cells.len() / 4;
     let v = number_vertices(split, d, many, work);
     if lacks_vertices(v, triples.len(), points.len()) {
-        lists::zero64(work);
-        return Gridded::NoVertices(count as u64, v as u64);
+        work.fill(0);
+        return Err(GridError::NoVertices(count as u64, v as u64));
     }
     let most = 3 * v;
     store_vertices(work, v, &mut triples[..most], &mut points[..most], p);
     leaf_cells::store_cells(split, d, work, v, 9 * many + 1, many, cells);
-    lists::zero64(work);
-    Gridded::Done(count as u64, v as u64)
+    work.fill(0);
+    Ok(Gridded {
+        cells: count as u64,
+        vertices: v as u64,
+    })
 }
 
 // The octree of a plan and a split table.
@@ -177,14 +194,14 @@ fn octree_grid(
     triples: &mut [u32],
     points: &mut [u32],
     work: &mut [u64],
-) -> Gridded
+) -> Result<Gridded, GridError>
     requires { (1 ≤ p.levels) × Taken split.now (roots_in p) × (length split.now ≤ most_octants) }
     ensures { Filled p split.now cells.old triples.old points.old work.old result cells.new triples.new points.new work.new }
 {
     let n = leaves::count_cells(split, roots_of(p));
     let count = n.cells;
     if lacks_cells(count, cells.len(), work.len()) {
-        return Gridded::NoCells(count as u64);
+        return Err(GridError::NoCells(count as u64));
     }
     let need = 4 * count;
     octree_fill(
@@ -210,17 +227,14 @@ pub fn grid(
     triples: &mut [u32],
     points: &mut [u32],
     work: &mut [u64],
-) -> Gridded
+) -> Result<Gridded, GridError>
     ensures { GridDone b c levels split.now cells.old triples.old points.old work.old result cells.new triples.new points.new work.new }
 {
     let a = Plan::new(b, c, levels);
     let Planned::Ready(p) = a else {
-        return Gridded::Refused(a.refusal());
+        return Err(GridError::Refused(a.refusal()));
     };
-    let number = judge(split, p);
-    if number != 0 {
-        return Gridded::Refused(Refusal::Number(number));
-    }
+    judge(split, p)?;
     if levels == 0 {
         return lattice_grid(p, cells, triples, points, work);
     }

@@ -33,11 +33,12 @@ use Rattle.leaf_cells.specs.Parts.{keys_of, leaf_keys}
 use Rattle.leaf_cells.proofs.Bounds.{far, near_low, cells_near}
 use Rattle.leaf_cells.proofs.Leafwise.{same_vertices}
 use Rattle.grid.specs.Grid.{grid_cells, grid_vertices, vertex_keys}
-use Rattle.grid.specs.Step.{GridDone, split_rows}
+use Rattle.grid.specs.Step.{GridDone, so_many, split_rows}
 use Rattle.grid.specs.Parts.{roots_in}
 use Rattle.grid.specs.Whole.{three_at, corners_of, Whole}
 use Rattle.grid.specs.declared.Gridded.{Gridded}
-use Rattle.grid.specs.declared.Gridded.TheVariants.{Done}
+use Rattle.grid.specs.declared.GridError.{GridError}
+use Rattle.std.specs.Prelude.{Result}
 use Rattle.grid.proofs.Octrees.{places_few}
 use Rattle.grid.proofs.WaysOut.{short_table, taken}
 use Rattle.grid.proofs.Whole.{split_taken}
@@ -123,8 +124,8 @@ product_few p q r = mul-le-mul (mul-le-mul p q) r
 
 -- ---- the step
 
-module _ {b : Bounds} {c : Float} {levels : ℕ} {s C T P w : List ℕ} {r : Gridded} {C' T' P' w' : List ℕ} (g : GridDone b c levels s C T P w r C' T' P' w')
-    (p : Plan) (made : plan_of b c levels ≡ planned.Ready p) (n v : ℕ) (done : r ≡ Done n v) where
+module _ {b : Bounds} {c : Float} {levels : ℕ} {s C T P w : List ℕ} {r : Result Gridded GridError} {C' T' P' w' : List ℕ} (g : GridDone b c levels s C T P w r C' T' P' w')
+    (p : Plan) (made : plan_of b c levels ≡ planned.Ready p) (n v : ℕ) (done : r ≡ so_many n v) where
   accepted : first (split_rows p s) ≡ 0
   accepted = split_taken b c levels s C T P w g n v done p made
 

@@ -19,10 +19,11 @@ use Rattle.lattice.specs.Lattice.{lattice_cells}
 use Rattle.plan.specs.Vertices.{dims_of}
 use Rattle.plan.proofs.Ready.{ready_levels}
 use Rattle.grid.specs.Grid.{grid_cells}
-use Rattle.grid.specs.Step.{GridDone}
+use Rattle.grid.specs.Step.{GridDone, so_many}
 use Rattle.grid.specs.Whole.{three_at, corners_of, Whole}
 use Rattle.grid.specs.declared.Gridded.{Gridded}
-use Rattle.grid.specs.declared.Gridded.TheVariants.{Done}
+use Rattle.grid.specs.declared.GridError.{GridError}
+use Rattle.std.specs.Prelude.{Result}
 use Rattle.grid.proofs.Whole.{nothing_in_part}
 use Rattle.tiling.specs.Volume.{six_fold, sum_six}
 use Rattle.tiling.specs.Tables.{six_at, table_six, box_of}
@@ -51,8 +52,8 @@ pub grid_fours : (d : Pos) (s : List ℕ) → sum_six (grid_cells 0 d s) ≡ 4 *
 unfolding grid_cells
 grid_fours d s = four_sum (lattice_cells d) (lattice_four d).each
 
-module _ {b : Bounds} {c : Float} {levels : ℕ} {s C T P w : List ℕ} {r : Gridded} {C' T' P' w' : List ℕ} (g : GridDone b c levels s C T P w r C' T' P' w')
-    (p : Plan) (ready : plan_of b c levels ≡ planned.Ready p) (n v : ℕ) (done : r ≡ Done n v) where
+module _ {b : Bounds} {c : Float} {levels : ℕ} {s C T P w : List ℕ} {r : Result Gridded GridError} {C' T' P' w' : List ℕ} (g : GridDone b c levels s C T P w r C' T' P' w')
+    (p : Plan) (ready : plan_of b c levels ≡ planned.Ready p) (n v : ℕ) (done : r ≡ so_many n v) where
   pub whole : Whole p s n v C' T' P'
   whole =
       let t = nothing_in_part b c levels s C T P w g n v done in

@@ -7,6 +7,7 @@ use Rattle.space.specs.Space.{Pos, pos}
 use Rattle.grid.specs.Grid.{grid_cells, grid_vertices}
 use Rattle.tiling.specs.Volume.{sum_six}
 use Rattle.plan.specs.declared.Bounds.{Bounds}
+use Rattle.plan.specs.declared.Fault.TheVariants.{X, Octants}
 use Rattle.plan.specs.declared.Refusal.TheVariants.{Number, TooLarge}
 use Rattle.plan.specs.declared.Planned.{Planned}
 use Rattle.plan.specs.declared.Planned.TheVariants.{Ready, Refused}
@@ -127,8 +128,8 @@ table =
     ∷ planned 0 0x7fc0_0000 0 (Refused (Number 1))
     ∷ planned 0 0x7f80_0000 0 (Refused (Number 1))
     -- box 0 to 59, c 1, L 1: 4, and x; box 0 to 0.25, c 1, L 5: 4, and the octants
-    ∷ planned 0x426c_0000 one 1 (Refused (TooLarge 0))
-    ∷ planned quarter one 5 (Refused (TooLarge 3))
+    ∷ planned 0x426c_0000 one 1 (Refused (TooLarge X))
+    ∷ planned quarter one 5 (Refused (TooLarge Octants))
     -- cells [0,1,2,3], [3,4,5,6], [7,8,9,10], none crossing: representatives 1 and 2; cell 1 crossing: 0 and 2
     ∷ represented chain (0 ∷ 0 ∷ 0 ∷ []) (1 ∷ 2 ∷ [])
     ∷ represented chain (0 ∷ 1 ∷ 0 ∷ []) (0 ∷ 2 ∷ [])

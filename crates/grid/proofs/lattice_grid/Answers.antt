@@ -21,9 +21,6 @@ dims c = record { x_some = c.some ax; y_some = c.some ay; z_some = c.some az; x_
 pub count-n-requires : goal.count-n-requires
 count-n-requires c = dims c.requires.0.dims
 
-pub lacks_cells-requires : goal.lacks_cells-requires
-lacks_cells-requires c = omega (arith, c.count-n.ensures.cells_few)
-
 pub returns-then-lacks_cells : goal.returns-then-lacks_cells
 returns-then-lacks_cells c =
     let q = c.args.p in
@@ -32,14 +29,11 @@ returns-then-lacks_cells c =
     let en = k.cells_are ∙ sym (lattice_cell_count q [] z) in
     no_cells q [] _ _ _ _ en (sym c.lacks_cells.ensures ∙ c.if-lacks_cells.true)
 
-pub overflow_mul-need : goal.overflow_mul-need
-overflow_mul-need c = omega (arith, c.count-n.ensures.cells_few)
+pub slice_bounds-fill-end : goal.slice_bounds-fill-end
+slice_bounds-fill-end c = let lc = sym c.lacks_cells.ensures ∙ c.if-lacks_cells.false in omega (arith, (cells_room _ _ _ lc).1)
 
-pub slice_bounds-zero64-end : goal.slice_bounds-zero64-end
-slice_bounds-zero64-end c = let lc = sym c.lacks_cells.ensures ∙ c.if-lacks_cells.false in omega (arith, (cells_room _ _ _ lc).1)
-
-pub slice_bounds-zero64-end-2 : goal.slice_bounds-zero64-end-2
-slice_bounds-zero64-end-2 c = let lc = sym c.lacks_cells.ensures ∙ c.if-lacks_cells.false in sym (length-take-le _ _ (omega (arith, (cells_room _ _ _ lc).1)))
+pub slice_bounds-fill-end-2 : goal.slice_bounds-fill-end-2
+slice_bounds-fill-end-2 c = let lc = sym c.lacks_cells.ensures ∙ c.if-lacks_cells.false in sym (length-take-le _ _ (omega (arith, (cells_room _ _ _ lc).1)))
 
 pub returns-then-lacks_vertices : goal.returns-then-lacks_vertices
 returns-then-lacks_vertices c =
@@ -49,7 +43,7 @@ returns-then-lacks_vertices c =
     let en = k.cells_are ∙ sym (lattice_cell_count q [] z) in
     let ev = k.vertices_are ∙ sym (lattice_vertex_count q [] z) in
     let lc = sym c.lacks_cells.ensures ∙ c.if-lacks_cells.false in
-    no_vertices q [] _ _ _ _ en ev lc (sym c.lacks_vertices.ensures ∙ c.if-lacks_vertices.true) c.zero64.ensures
+    no_vertices q [] _ _ _ _ en ev lc (sym c.lacks_vertices.ensures ∙ c.if-lacks_vertices.true) (c.fill.ensures.after (λ y e. e))
 
 pub slice_bounds-store_cells-end : goal.slice_bounds-store_cells-end
 slice_bounds-store_cells-end c = let lc = sym c.lacks_cells.ensures ∙ c.if-lacks_cells.false in (cells_room _ _ _ lc).0
@@ -67,9 +61,6 @@ store_cells-requires c =
     let cl : length (lattice_table (dims_of q)) ≡ 4 * c.count-n.result.cells = ap length (sym (lattice_cells_lem q [] z)) ∙ length_cells q [] ∙ ap (λ (i : ℕ). 4 * i) (sym en) in
     let h = c.requires.0 in
     (dims h.dims, room_as (sym (all_cells_lem (dims_of q))) (lent_room _ _ _ cl (cells_room _ _ _ lc).0))
-
-pub overflow_mul-most : goal.overflow_mul-most
-overflow_mul-most c = omega (arith, c.count-n.ensures.vertices_few)
 
 pub slice_bounds-store_vertices-end : goal.slice_bounds-store_vertices-end
 slice_bounds-store_vertices-end c = let lv = sym c.lacks_vertices.ensures ∙ c.if-lacks_vertices.false in (vertices_room _ _ _ lv).0
@@ -113,4 +104,4 @@ returns c =
     (lent_full _ _ _ cl (cells_room _ _ _ lc).0 c.store_cells.ensures ∙ sym (lattice_cells_lem q [] z))
     (lent_full _ _ _ tl (vertices_room _ _ _ lv).0 sv.0 ∙ sym (lattice_triples q [] z))
     (lent_full _ _ _ pl (vertices_room _ _ _ lv).1 sv.1 ∙ sym (lattice_points q [] z))
-    c.zero64.ensures
+    (c.fill.ensures.after (λ y e. e))

@@ -21,7 +21,7 @@ returns-then-lacks_vertices c =
     let ev = octree_vertex_count a.p a.split.now h.some _ _ (short _ _ k.lookup) k.keys in
     let e4 = h.cells in
     let en : length a.cells.now / 4 ≡ cell_count a.p a.split.now = omega arith in
-    stocked_none a.p a.split.now _ _ _ _ en ev c.zero64.ensures c.number_vertices-v.auto.work (told c.lacks_vertices.ensures c.if-lacks_vertices.true)
+    stocked_none a.p a.split.now _ _ _ _ en ev (c.fill.ensures.after (λ y e. e)) c.number_vertices-v.auto.work (told c.lacks_vertices.ensures c.if-lacks_vertices.true)
 
 pub slice_bounds-store_vertices-end : goal.slice_bounds-store_vertices-end
 slice_bounds-store_vertices-end c = (vertices_room _ _ _ (told c.lacks_vertices.ensures c.if-lacks_vertices.false)).0
@@ -45,12 +45,6 @@ store_vertices-requires c =
       triple_room = omega (arith, length-take-le _ c.args.triples.now r.0);
       point_room = omega (arith, length-take-le _ c.args.points.now r.1);
     }
-
-pub overflow_mul-many : goal.overflow_mul-many
-overflow_mul-many c = omega (arith, c.requires.numberable.room, c.well_formed)
-
-pub overflow_add-many : goal.overflow_add-many
-overflow_add-many c = omega (arith, c.requires.numberable.room, c.well_formed)
 
 pub store_cells-requires : goal.store_cells-requires
 store_cells-requires c =
@@ -79,7 +73,7 @@ returns c =
     let tl = ap length et ∙ length_triples a.p a.split.now ∙ ap (λ (i : ℕ). 3 * i) (sym ev) in
     let pl = ap length ep ∙ length_points a.p a.split.now ∙ ap (λ (i : ℕ). 3 * i) (sym ev) in
     let sv = c.store_vertices.ensures in
-    stocked_done a.p a.split.now _ _ _ _ en ev c.zero64-2.ensures c.number_vertices-v.auto.work lv h.cells
+    stocked_done a.p a.split.now _ _ _ _ en ev (c.fill-2.ensures.after (λ y e. e)) c.number_vertices-v.auto.work lv h.cells
     (sc ∙ octree_table a.p a.split.now h.some _ _ (short _ _ k.lookup) k.keys)
     (lent_full _ _ _ tl r.0 sv.0 ∙ et)
     (lent_full _ _ _ pl r.1 sv.1 ∙ ep)
