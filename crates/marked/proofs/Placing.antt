@@ -148,9 +148,6 @@ points_at_lem P s k a h b = spread_at (point_bits P) 3 (bits_three P) s k a h b 
 
 -- one point
 module _ {P o T : List ℕ} {v k : ℕ} (e : k ≡ get_or T v 0) where
-  pub point_unused : k ≡ 0 → PointStored P o o T v
-  point_unused z = record { unused = λ y. refl; stored = λ d. absurd (d (sym e ∙ z)) }
-
   pub point_copied : {o' : List ℕ} → k ≢ 0 → o' ≡ sets o (3 * (k - 1)) (point_bits P v) → PointStored P o o' T v
   point_copied d s = record { unused = λ z. absurd (d (e ∙ z)); stored = λ y. s ∙ ap (λ (m : ℕ). sets o (3 * (m - 1)) (point_bits P v)) e }
 
@@ -161,18 +158,12 @@ module _ (P T o₀ : List ℕ) where
     pub copied : (s : List ℕ) → Table T s → length o₀ ≡ 3 * length s → (u : ℕ) → u < v → place u s < length s → (a : ℕ) → a < 3
         → get_or o (3 * place u s + a) 0 ≡ get_or P (3 * u + a) 0
 
-  pub copying_start : Copying o₀ 0
-  copying_start = record { size = refl; copied = λ s t e u h. absurd (not-suc-le-zero h) }
-
   pub copying_step : (o o' : List ℕ) (v : ℕ) → Copying o v → length o' ≡ length o → PointStored P o o' T v → Copying o' (v + 1)
   copying_step o o' v l same p = record {
     size = same ∙ l.size;
     copied = λ s t e u b h a c. go s t e u b h a c (eq_or u v) (eq_or (get_or T v 0) 0);
   }
     where
-      Goal : List ℕ → ℕ → ℕ → Type 0
-      Goal s u a = get_or o' (3 * place u s + a) 0 ≡ get_or P (3 * u + a) 0
-
       go : (s : List ℕ) → Table T s → length o₀ ≡ 3 * length s → (u : ℕ) → u < v + 1 → place u s < length s → (a : ℕ) → a < 3
           → (u ≡ v) ⊎ (u ≢ v) → (get_or T v 0 ≡ 0) ⊎ (get_or T v 0 ≢ 0) → get_or o' (3 * place u s + a) 0 ≡ get_or P (3 * u + a) 0
       go s t e u b h a c (inl q) (inl z) = absurd (omega (arith, t.given u h, ap (λ (k : ℕ). get_or T k 0) q))

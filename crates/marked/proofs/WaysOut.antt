@@ -12,14 +12,14 @@ use lib.ListN.{length, get_or, take, drop}
 use lib.Seq.{length-take-le, get_or-take, get_or-drop}
 use Rattle.std.specs.Prelude.{Result, Ok, Err}
 use Rattle.lists.specs.Appearance.{place}
-use Rattle.lists.proofs.Cases.{eq_or, lt_or}
+use Rattle.lists.proofs.Cases.{eq_or}
 use Rattle.lists.proofs.Lent.{as_lent, as_new}
 use Rattle.lists.proofs.Running.{run_same, run_map}
 use Rattle.lists.proofs.Passing.{those_same}
 use Rattle.refusals.specs.Rows.{first}
 use Rattle.refusals.specs.Causes.{room_rows}
 use Rattle.refusals.specs.declared.Refusal.TheVariants.{NothingKept}
-use Rattle.mesh.specs.Mesh.{points_of, cells_of, cell_of, Each, in_order}
+use Rattle.mesh.specs.Mesh.{cells_of, cell_of, Each, in_order}
 use Rattle.mesh.specs.declared.Cell.{Cell}
 use Rattle.mesh.proofs.Named.{cell_points, each_then}
 use Rattle.volume.specs.Volume.{verdict_at}
@@ -28,7 +28,7 @@ use Rattle.volume.specs.declared.Verdict.TheVariants as verdict
 use Rattle.marked.specs.Weighed.{shaped, shape_at, drops_at, final_cells, dropped_count}
 use Rattle.marked.specs.Used.{first_uses, used_of, renumbered, points_at}
 use Rattle.marked.specs.Kept.{points_kept, cells_kept, kept_rows, number_of, kept_of}
-use Rattle.marked.specs.Parts.{marked_in, code_of, code_at, In, Tallied, ordered, shape_of, placed_cell, placed_cells, CellsAsked, PointsAsked, PointsStored, KeptAs, KeptMarked}
+use Rattle.marked.specs.Parts.{marked_in, code_of, code_at, In, Tallied, ordered, shape_of, placed_cell, placed_cells, CellsAsked, PointsStored, KeptAs, KeptMarked}
 use Rattle.marked.specs.declared.Counts.{Counts}
 use Rattle.marked.specs.declared.Kept.{Kept}
 use Rattle.marked.specs.declared.KeepError.{KeepError}
@@ -100,17 +100,6 @@ module _ (P C M w : List ℕ) (n : ℕ) (least : Float) (r : Counts) (t : Tallie
     named = λ i b d. each_then (λ v e. omega arith) (numbers_are i b d);
     fits = omega (arith, length-take-le (4 * r.cells) q (omega arith), t.cells, ap length cells_are, renumbered_length (final_cells (marked_in M) least P C (cells_of C)));
   }
-
-  pub points_asked : (p : List ℕ) → n ≡ points_of P → r.points ≤ length p / 3 → PointsAsked P (take (3 * r.points) p) (take n w)
-  unfolding s
-  points_asked p h g = record {
-    points = omega (arith, length-take-le n w (omega (arith, t.sized.long)));
-    room = λ v d. omega (arith, length-take-le (3 * r.points) p (omega arith), inside v d (lt_or (place v s) (length s)));
-  }
-    where
-      inside : (v : ℕ) → get_or (take n w) v 0 ≢ 0 → (place v s < length s) ⊎ (length s ≤ place v s) → get_or (take n w) v 0 ≤ r.points
-      inside v d (inl q) = omega (arith, t.table.given v q, t.points)
-      inside v d (inr q) = absurd (d (t.table.free v q))
 
   pub points_are : (p p' : List ℕ) → r.points ≤ length p / 3 → PointsStored P (take (3 * r.points) p) p' (take n w)
       → p' ≡ points_at P (used_of (final_cells (marked_in M) least P C (cells_of C)))

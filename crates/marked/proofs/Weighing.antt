@@ -11,7 +11,7 @@ use borrow.Author.Tests.{eq-eqb, ne_eqb}
 use lib.Dec.{eqb}
 use lib.Ieee.{Float}
 use lib.ListN.{length, get_or, set, take, drop, replicate, length-set, length-drop, length-append}
-use lib.Seq.{length-take-le, length_front, get_or-set_other, take_at, drop_at, take-set-le, drop-set-add, get_or-drop, set-get_or}
+use lib.Seq.{length-take-le, get_or-set_other, take_at, drop_at, take-set-le, drop-set-add, get_or-drop, set-get_or}
 use Rattle.lists.specs.Tests.{bit}
 use Rattle.lists.specs.Appearance.{Table}
 use Rattle.lists.specs.Runs.{run, those}
@@ -27,7 +27,7 @@ use Rattle.volume.specs.declared.Verdict.TheVariants.{Kept, Exchanged, Dropped}
 use Rattle.groups.specs.Parts.{Laid}
 use Rattle.marked.specs.Weighed.{shaped, is_dropped, shape_at, drops_at, final_cells, dropped_count}
 use Rattle.marked.specs.Used.{first_uses, used_of}
-use Rattle.marked.specs.Parts.{CornersAsked, CornersNoted, marked_in, code_of, code_at, Few, WeighAsked, StayAsked, WeighedAs, WeighedAt, In, Tallied}
+use Rattle.marked.specs.Parts.{CornersNoted, marked_in, code_of, code_at, Few, WeighAsked, StayAsked, WeighedAs, WeighedAt, In}
 use Rattle.marked.specs.declared.Counts.{Counts}
 use Rattle.marked.proofs.Using.{uses_append, uses_kept, uses_here}
 use Rattle.marked.proofs.Counting.{count_more}
@@ -63,12 +63,6 @@ module _ {P C w : List ℕ} {n i : ℕ} {b : Counts} (a : WeighAsked P C w n i b
         few = stay_asked.few;
         small = stay_asked.small;
       })
-
--- its entry, which stands behind, may be written first
-pub corners_behind : {w : List ℕ} {n i : ℕ} {k : Cell} {b : Counts} → StayAsked w n i k b → (code : ℕ)
-    → CornersAsked (take n (set w (n + i) code)) k b.points
-corners_behind {w} {n} {i} {k} {b} a code =
-    subst (λ (u : List ℕ). CornersAsked u k b.points) (sym (take-set-le n w (n + i) code (omega arith))) a.corners
 
 -- the corners of one that stays are noted in the front of the work, which was lent and is now T
 pub stayed : (w : List ℕ) (n i : ℕ) (b : Counts) {T : List ℕ} {points code : ℕ} {k : Cell} → n ≤ length w
@@ -250,23 +244,3 @@ module _ (P C M : List ℕ) (n : ℕ) (least : Float) where
             (piece_used (used_of (mesh_to i)) (marked_in M i) least P C i (λ z. d (ap (λ (k : ℕ). code_at (marked_in M k) least P C k) q ∙ z)))
         names j g d (inr q) =
             each_then (λ v old. let k = uses_kept v piece (used_of (mesh_to i)) old in omega (arith, k.0, k.1)) (l.named j (omega arith) d)
-
-  pub tallying_done : (w : List ℕ) (i : ℕ) (b : Counts) → Tallying w i b → i ≡ cells_of C → Tallied P C M w n least b
-  tallying_done w i b l e =
-      let q : Tallying w (cells_of C) b = subst (λ (k : ℕ). Tallying w k b) e l in
-      record { sized = q.laid.sized; codes = q.codes; table = q.table; named = q.named; points = q.points; cells = q.cells; dropped = q.dropped }
-
--- ---- the numbers are set to 0 before
-
-module _ (P C w z : List ℕ) (n : ℕ) (m : Laid P C w n) (kept : length z ≡ length (take n w)) where
-  front_long : length z ≡ n
-  front_long = kept ∙ length-take-le n w (omega (arith, m.sized.long))
-
-  pub zeroed_laid : Laid P C (z ++ drop n w) n
-  zeroed_laid = record { points = m.points; sized = record { cells = m.sized.cells; long = length_front w z n kept ∙ m.sized.long } }
-
-  pub zeroed_rest : drop n (z ++ drop n w) ≡ drop n w
-  zeroed_rest = drop_at z (drop n w) n front_long
-
-  pub zeroed_front : z ≡ replicate (length (take n w)) 0 → take n (z ++ drop n w) ≡ replicate n 0
-  zeroed_front e = take_at z (drop n w) n front_long ∙ e ∙ ap (λ (k : ℕ). replicate k 0) (sym kept ∙ front_long)

@@ -1,5 +1,4 @@
 use mathlib.Core.Path.{refl, ◌∙◌, ap}
-use native.Mathlib.Omega.{arith}
 use Rattle.marked.specs.Parts.{ordered}
 use Rattle.marked.proofs.Placing.{cell_gone, cell_placed, order_named}
 use Rattle.marked.proofs.store_cell.Goals as goal
@@ -18,9 +17,6 @@ place_of-c-requires c = (order_named _ (c.order-cell.ensures ∙ ap (ordered _) 
 
 pub place_of-d-requires : goal.place_of-d-requires
 place_of-d-requires c = (order_named _ (c.order-cell.ensures ∙ ap (ordered _) c.cell_at.ensures) (c.requires.named c.if-code-eq0.false)).d_is
-
-pub store_all-requires : goal.store_all-requires
-store_all-requires c = omega (arith, c.requires.room c.if-code-eq0.false)
 
 pub returns : goal.returns
 returns c =
