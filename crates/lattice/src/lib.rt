@@ -44,15 +44,6 @@ pub fn count(nx: usize, ny: usize, nz: usize) -> Counts
     }
 }
 
-fn both(a: bool, b: bool) -> bool
-    ensures { result ≡ (a && b) }
-{
-    if !a {
-        return false;
-    }
-    b
-}
-
 // An octahedron by numbers: its centre, the opposite one, its low corner, and what a step along the two axes of the face adds to a
 // corner's number.
 #[derive(Clone, Copy)]
@@ -81,10 +72,10 @@ fn octahedron(cells: &mut [u32], at: usize, row: bool, here: bool, o: Octa) -> u
     let c1 = low + o.v;
     let c3 = low + o.u;
     let c0 = c3 + o.v;
-    lists::store4(cells, at, centre, opposite, c0, c1);
-    lists::store4(cells, at + 4, centre, opposite, c1, low);
-    lists::store4(cells, at + 8, centre, opposite, low, c3);
-    lists::store4(cells, at + 12, centre, opposite, c3, c0);
+    lists::store_all(cells, at, [centre, opposite, c0, c1]);
+    lists::store_all(cells, at + 4, [centre, opposite, c1, low]);
+    lists::store_all(cells, at + 8, [centre, opposite, low, c3]);
+    lists::store_all(cells, at + 12, [centre, opposite, c3, c0]);
     at + 16
 }
 
@@ -120,8 +111,7 @@ fn store_row(cells: &mut [u32], at: usize, r: Row) -> usize
     let layer = r.layer;
     let deep = r.deep;
     let mut here = at;
-    let mut i: u32 = 0;
-    while i < n {
+    for i in 0..n {
         let c = centre + i;
         let b = low + i;
         let x = Octa {
@@ -148,7 +138,6 @@ fn store_row(cells: &mut [u32], at: usize, r: Row) -> usize
         here = octahedron(cells, here, tx, i + 1 < n, x);
         here = octahedron(cells, here, ty, i < h, y);
         here = octahedron(cells, here, tz, i < h, z);
-        i += 1;
     }
     here
 }
@@ -173,9 +162,9 @@ fn row_of(nx: u32, ny: u32, nz: u32, j: u32, k: u32) -> Row
     let oy = (ny + 1) / 2;
     let oz = (nz + 1) / 2;
     let line = hx + 1;
-    let tx = both(j < hy, k < hz);
-    let ty = both(j + 1 < oy, k < hz);
-    let tz = both(k + 1 < oz, j < hy);
+    let tx = j < hy && k < hz;
+    let ty = j + 1 < oy && k < hz;
+    let tz = k + 1 < oz && j < hy;
     let first = slot(0, hz + 1, hy + 1, line);
     Row {
         n: ox,
@@ -198,10 +187,8 @@ fn layer_at(cells: &mut [u32], at: usize, nx: u32, ny: u32, nz: u32, k: u32) -> 
 {
     let n = (ny + 1) / 2;
     let mut here = at;
-    let mut j: u32 = 0;
-    while j < n {
+    for j in 0..n {
         here = store_row(cells, here, row_of(nx, ny, nz, j, k));
-        j += 1;
     }
     here
 }
@@ -213,10 +200,8 @@ pub fn store_cells(cells: &mut [u32], nx: u32, ny: u32, nz: u32)
 {
     let n = (nz + 1) / 2;
     let mut here: usize = 0;
-    let mut k: u32 = 0;
-    while k < n {
+    for k in 0..n {
         here = layer_at(cells, here, nx, ny, nz, k);
-        k += 1;
     }
 }
 
@@ -239,14 +224,12 @@ fn vertex_row(
     let py = plan::place(p.oy, p.half, y);
     let pz = plan::place(p.oz, p.half, z);
     let mut here = at;
-    let mut i: u32 = 0;
-    while i < n {
+    for i in 0..n {
         let x = 2 * i + e;
         let px = plan::place(p.ox, p.half, x);
-        lists::store3(triples, here, x, y, z);
-        lists::store3(points, here, px, py, pz);
+        lists::store_all(triples, here, [x, y, z]);
+        lists::store_all(points, here, [px, py, pz]);
         here += 3;
-        i += 1;
     }
     here
 }
@@ -266,10 +249,8 @@ fn vertex_layer(
     ensures { BothStored triples.old points.old at (layer_of triple_at e n m k) (layer_of (point_at p) e n m k) result triples.new points.new }
 {
     let mut here = at;
-    let mut j: u32 = 0;
-    while j < m {
+    for j in 0..m {
         here = vertex_row(triples, points, here, p, n, e, j, k);
-        j += 1;
     }
     here
 }
@@ -289,10 +270,8 @@ fn vertex_box(
     ensures { BothStored triples.old points.old at (box_of triple_at e n m l) (box_of (point_at p) e n m l) result triples.new points.new }
 {
     let mut here = at;
-    let mut k: u32 = 0;
-    while k < l {
+    for k in 0..l {
         here = vertex_layer(triples, points, here, p, n, m, e, k);
-        k += 1;
     }
     here
 }

@@ -1,14 +1,10 @@
 use mathlib.Core.Path.{sym}
-use native.Mathlib.Omega.{arith}
 use Rattle.lists.proofs.Running.{loop_start, loop_next, loop_room, loop_done, storing_length, stored_as, room_as}
 use Rattle.lattice.proofs.Tables.{row_is}
 use Rattle.lattice.proofs.layer_at.Goals as goal
 
-pub overflow_add-n : goal.overflow_add-n
-overflow_add-n c = omega (arith, c.requires.0.dims)
-
 pub loop-j-init : goal.loop-j-init
-loop-j-init c = (omega arith, loop_start _ _ _ _)
+loop-j-init c = loop_start _ _ _ _
 
 pub row_of-requires : goal.row_of-requires
 row_of-requires c = record { layer = c.requires.0; j_in = c.loop-j-test.true }
@@ -17,21 +13,18 @@ pub store_row-here-requires : goal.store_row-here-requires
 store_row-here-requires c =
     let e = row_is _ _ _ _ _ (record { layer = c.requires.0; j_in = c.loop-j-test.true }) _ c.row_of.ensures in
     record {
-      room = room_as (sym e) (loop_room _ _ _ _ c.loop-j.invariant.1 c.loop-j-test.true c.requires.1);
+      room = room_as (sym e) (loop_room _ _ _ _ c.loop-j.invariant c.loop-j-test.true c.requires.1);
       corners = c.row_of.ensures.corners;
       centres = c.row_of.ensures.centres;
     }
 
-pub overflow_add-j : goal.overflow_add-j
-overflow_add-j c = omega (arith, c.requires.0.dims)
-
 pub loop-j-preserved : goal.loop-j-preserved
 loop-j-preserved c =
     let e = row_is _ _ _ _ _ (record { layer = c.requires.0; j_in = c.loop-j-test.true }) _ c.row_of.ensures in
-    (omega arith, loop_next _ _ _ _ c.loop-j.invariant.1 c.loop-j-test.true (stored_as e c.store_row-here.ensures))
+    loop_next _ _ _ _ c.loop-j.invariant c.loop-j-test.true (stored_as e c.store_row-here.ensures)
 
 pub shape_of-cells : goal.shape_of-cells
-shape_of-cells c = storing_length c.loop-j.invariant.1
+shape_of-cells c = storing_length c.loop-j.invariant
 
 pub returns : goal.returns
-returns c = loop_done _ _ _ _ c.loop-j.invariant.1 c.loop-j-test.false
+returns c = loop_done _ _ _ _ c.loop-j.invariant c.loop-j-test.false

@@ -1,4 +1,4 @@
-use Prim.Native.Nat.{◌+◌, ◌-◌, ◌/◌, ◌≤◌}
+use Prim.Native.Nat.{◌+◌, ◌-◌, ◌/◌}
 use Rattle.lists.specs.Runs.{run, Storing}
 use Rattle.space.specs.Space.{pos}
 use Rattle.lattice.specs.Parts.{row_cells, layer_cells}
@@ -6,7 +6,4 @@ use Rattle.lattice.proofs.layer_at.Given as goal
 
 abbrev pub invariant-loop-j : goal.invariant-loop-j
 invariant-loop-j l =
-    (l.j ≤ (l.ny + 1) / 2) × Storing l.initial.cells l.at (layer_cells (pos l.nx l.ny l.nz) l.k) l.cells l.here (run ((l.ny + 1) / 2 - l.j) (row_cells (pos l.nx l.ny l.nz) l.k) l.j)
-
-abbrev pub decreases-loop-j : goal.decreases-loop-j
-decreases-loop-j l = (l.ny + 1) / 2 - l.j
+    Storing l.initial.cells l.at (layer_cells (pos l.nx l.ny l.nz) l.k) l.cells l.here (run ((l.ny + 1) / 2 - l.j) (row_cells (pos l.nx l.ny l.nz) l.k) l.j)

@@ -8,25 +8,25 @@ returns-then-not-row c = let a = c.args in octa_row a.row a.here a.o _ _ c.if-no
 pub returns-then-not-here : goal.returns-then-not-here
 returns-then-not-here c = let a = c.args in octa_here a.row a.here a.o _ _ c.if-not-row.false c.if-not-here.true
 
-pub store4-requires : goal.store4-requires
-store4-requires c =
+pub store_all-requires : goal.store_all-requires
+store_all-requires c =
     let a = c.args in
     omega (arith, c.requires.room.fits, octa_long a.row a.here a.o c.if-not-row.false c.if-not-here.false)
 
-pub store4-requires-2 : goal.store4-requires-2
-store4-requires-2 c =
+pub store_all-requires-2 : goal.store_all-requires-2
+store_all-requires-2 c =
     let a = c.args in
-    omega (arith, c.requires.room.fits, octa_long a.row a.here a.o c.if-not-row.false c.if-not-here.false, c.store4.auto.table)
+    omega (arith, c.requires.room.fits, octa_long a.row a.here a.o c.if-not-row.false c.if-not-here.false, c.store_all.auto.table)
 
-pub store4-requires-3 : goal.store4-requires-3
-store4-requires-3 c =
+pub store_all-requires-3 : goal.store_all-requires-3
+store_all-requires-3 c =
     let a = c.args in
-    omega (arith, c.requires.room.fits, octa_long a.row a.here a.o c.if-not-row.false c.if-not-here.false, c.store4.auto.table, c.store4-2.auto.table)
+    omega (arith, c.requires.room.fits, octa_long a.row a.here a.o c.if-not-row.false c.if-not-here.false, c.store_all.auto.table, c.store_all-2.auto.table)
 
-pub store4-requires-4 : goal.store4-requires-4
-store4-requires-4 c =
+pub store_all-requires-4 : goal.store_all-requires-4
+store_all-requires-4 c =
     let a = c.args in
-    omega (arith, c.requires.room.fits, octa_long a.row a.here a.o c.if-not-row.false c.if-not-here.false, c.store4.auto.table, c.store4-2.auto.table, c.store4-3.auto.table)
+    omega (arith, c.requires.room.fits, octa_long a.row a.here a.o c.if-not-row.false c.if-not-here.false, c.store_all.auto.table, c.store_all-2.auto.table, c.store_all-3.auto.table)
 
 pub overflow_add-result : goal.overflow_add-result
 overflow_add-result c =
@@ -36,4 +36,4 @@ overflow_add-result c =
 pub returns : goal.returns
 returns c =
     let a = c.args in
-    octa_stored a.row a.here a.o c.if-not-row.false c.if-not-here.false _ _ _ _ _ a.at c.store4.ensures c.store4-2.ensures c.store4-3.ensures c.store4-4.ensures
+    octa_stored a.row a.here a.o c.if-not-row.false c.if-not-here.false _ _ _ _ _ a.at c.store_all.ensures c.store_all-2.ensures c.store_all-3.ensures c.store_all-4.ensures

@@ -4,62 +4,35 @@ use Rattle.lattice.proofs.Stores.{row_x, row_y, row_z}
 use Rattle.lattice.proofs.store_row.Goals as goal
 
 pub loop-i-init : goal.loop-i-init
-loop-i-init c = (omega arith, loop_start _ _ _ _)
-
-pub overflow_add-c : goal.overflow_add-c
-overflow_add-c c = omega (arith, c.requires.centres)
-
-pub overflow_add-b : goal.overflow_add-b
-overflow_add-b c = omega (arith, c.requires.corners)
-
-pub overflow_add-x : goal.overflow_add-x
-overflow_add-x c = omega (arith, c.requires.centres)
-
-pub overflow_add-x-in-loop-i : goal.overflow_add-x-in-loop-i
-overflow_add-x-in-loop-i c = omega (arith, c.requires.corners)
-
-pub overflow_add-y : goal.overflow_add-y
-overflow_add-y c = omega (arith, c.requires.centres)
-
-pub overflow_add-y-in-loop-i : goal.overflow_add-y-in-loop-i
-overflow_add-y-in-loop-i c = omega (arith, c.requires.corners)
-
-pub overflow_add-z : goal.overflow_add-z
-overflow_add-z c = omega (arith, c.requires.centres)
-
-pub overflow_add-z-in-loop-i : goal.overflow_add-z-in-loop-i
-overflow_add-z-in-loop-i c = omega (arith, c.requires.corners)
-
-pub overflow_add-i : goal.overflow_add-i
-overflow_add-i c = omega (arith, c.requires.centres)
+loop-i-init c = loop_start _ _ _ _
 
 pub octahedron-here-requires : goal.octahedron-here-requires
 octahedron-here-requires c =
     let x = row_x c.args.r c.loop-i.i c.loop-i-test.true in
-    record { room = room_first x (storing_room c.loop-i.invariant.1 c.requires.room); names = omega (arith, c.requires.corners) }
+    record { room = room_first x (storing_room c.loop-i.invariant c.requires.room); names = omega (arith, c.requires.corners) }
 
 pub octahedron-here-requires-in-loop-i : goal.octahedron-here-requires-in-loop-i
 octahedron-here-requires-in-loop-i c =
     let r = c.args.r in
-    let s = storing_on c.loop-i.invariant.1 (row_x r c.loop-i.i c.loop-i-test.true) c.octahedron-here.ensures in
+    let s = storing_on c.loop-i.invariant (row_x r c.loop-i.i c.loop-i-test.true) c.octahedron-here.ensures in
     record { room = room_first (row_y r c.loop-i.i c.loop-i-test.true) (storing_room s c.requires.room); names = omega (arith, c.requires.corners) }
 
 pub octahedron-here-requires-in-loop-i-2 : goal.octahedron-here-requires-in-loop-i-2
 octahedron-here-requires-in-loop-i-2 c =
     let r = c.args.r in
-    let s = storing_on c.loop-i.invariant.1 (row_x r c.loop-i.i c.loop-i-test.true) c.octahedron-here.ensures in
+    let s = storing_on c.loop-i.invariant (row_x r c.loop-i.i c.loop-i-test.true) c.octahedron-here.ensures in
     let q = storing_on s (row_y r c.loop-i.i c.loop-i-test.true) c.octahedron-here-in-loop-i.ensures in
     record { room = room_first (row_z r c.loop-i.i c.loop-i-test.true) (storing_room q c.requires.room); names = omega (arith, c.requires.corners) }
 
 pub loop-i-preserved : goal.loop-i-preserved
 loop-i-preserved c =
     let r = c.args.r in
-    let s = storing_on c.loop-i.invariant.1 (row_x r c.loop-i.i c.loop-i-test.true) c.octahedron-here.ensures in
+    let s = storing_on c.loop-i.invariant (row_x r c.loop-i.i c.loop-i-test.true) c.octahedron-here.ensures in
     let q = storing_on s (row_y r c.loop-i.i c.loop-i-test.true) c.octahedron-here-in-loop-i.ensures in
-    (omega arith, storing_on q (row_z r c.loop-i.i c.loop-i-test.true) c.octahedron-here-in-loop-i-2.ensures)
+    storing_on q (row_z r c.loop-i.i c.loop-i-test.true) c.octahedron-here-in-loop-i-2.ensures
 
 pub shape_of-cells : goal.shape_of-cells
-shape_of-cells c = storing_length c.loop-i.invariant.1
+shape_of-cells c = storing_length c.loop-i.invariant
 
 pub returns : goal.returns
-returns c = loop_done _ _ _ _ c.loop-i.invariant.1 c.loop-i-test.false
+returns c = loop_done _ _ _ _ c.loop-i.invariant c.loop-i-test.false

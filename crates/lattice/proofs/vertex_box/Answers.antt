@@ -3,28 +3,25 @@ use Rattle.lists.proofs.Running.{loop_start, loop_next, loop_room, loop_done, st
 use Rattle.lattice.proofs.vertex_box.Goals as goal
 
 pub loop-k-init : goal.loop-k-init
-loop-k-init c = (omega arith, loop_start _ _ _ _, loop_start _ _ _ _)
+loop-k-init c = (loop_start _ _ _ _, loop_start _ _ _ _)
 
 pub vertex_layer-here-requires : goal.vertex_layer-here-requires
 vertex_layer-here-requires c =
     let l = c.loop-k in
     let h = c.loop-k-test.true in
-    (c.requires.0, c.requires.1, c.requires.3, omega (arith, c.requires.2), record { triples = loop_room _ _ _ _ l.invariant.1 h c.requires.4.triples; points = loop_room _ _ _ _ l.invariant.2 h c.requires.4.points })
-
-pub overflow_add-k : goal.overflow_add-k
-overflow_add-k c = omega (arith, c.requires.1, c.requires.2)
+    (c.requires.0, c.requires.1, c.requires.3, omega (arith, c.requires.2), record { triples = loop_room _ _ _ _ l.invariant.0 h c.requires.4.triples; points = loop_room _ _ _ _ l.invariant.1 h c.requires.4.points })
 
 pub loop-k-preserved : goal.loop-k-preserved
 loop-k-preserved c =
     let l = c.loop-k in
     let h = c.loop-k-test.true in
-    (omega arith, loop_next _ _ _ _ l.invariant.1 h c.vertex_layer-here.ensures.triples, loop_next _ _ _ _ l.invariant.2 h c.vertex_layer-here.ensures.points)
+    (loop_next _ _ _ _ l.invariant.0 h c.vertex_layer-here.ensures.triples, loop_next _ _ _ _ l.invariant.1 h c.vertex_layer-here.ensures.points)
 
 pub shape_of-triples : goal.shape_of-triples
-shape_of-triples c = storing_length c.loop-k.invariant.1
+shape_of-triples c = storing_length c.loop-k.invariant.0
 
 pub shape_of-points : goal.shape_of-points
-shape_of-points c = storing_length c.loop-k.invariant.2
+shape_of-points c = storing_length c.loop-k.invariant.1
 
 pub returns : goal.returns
-returns c = record { triples = loop_done _ _ _ _ c.loop-k.invariant.1 c.loop-k-test.false; points = loop_done _ _ _ _ c.loop-k.invariant.2 c.loop-k-test.false }
+returns c = record { triples = loop_done _ _ _ _ c.loop-k.invariant.0 c.loop-k-test.false; points = loop_done _ _ _ _ c.loop-k.invariant.1 c.loop-k-test.false }

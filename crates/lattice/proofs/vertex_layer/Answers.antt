@@ -3,28 +3,25 @@ use Rattle.lists.proofs.Running.{loop_start, loop_next, loop_room, loop_done, st
 use Rattle.lattice.proofs.vertex_layer.Goals as goal
 
 pub loop-j-init : goal.loop-j-init
-loop-j-init c = (omega arith, loop_start _ _ _ _, loop_start _ _ _ _)
+loop-j-init c = (loop_start _ _ _ _, loop_start _ _ _ _)
 
 pub vertex_row-here-requires : goal.vertex_row-here-requires
 vertex_row-here-requires c =
     let l = c.loop-j in
     let h = c.loop-j-test.true in
-    (c.requires.0, c.requires.2, omega (arith, c.requires.1), c.requires.3, record { triples = loop_room _ _ _ _ l.invariant.1 h c.requires.4.triples; points = loop_room _ _ _ _ l.invariant.2 h c.requires.4.points })
-
-pub overflow_add-j : goal.overflow_add-j
-overflow_add-j c = omega (arith, c.requires.1, c.requires.2)
+    (c.requires.0, c.requires.2, omega (arith, c.requires.1), c.requires.3, record { triples = loop_room _ _ _ _ l.invariant.0 h c.requires.4.triples; points = loop_room _ _ _ _ l.invariant.1 h c.requires.4.points })
 
 pub loop-j-preserved : goal.loop-j-preserved
 loop-j-preserved c =
     let l = c.loop-j in
     let h = c.loop-j-test.true in
-    (omega arith, loop_next _ _ _ _ l.invariant.1 h c.vertex_row-here.ensures.triples, loop_next _ _ _ _ l.invariant.2 h c.vertex_row-here.ensures.points)
+    (loop_next _ _ _ _ l.invariant.0 h c.vertex_row-here.ensures.triples, loop_next _ _ _ _ l.invariant.1 h c.vertex_row-here.ensures.points)
 
 pub shape_of-triples : goal.shape_of-triples
-shape_of-triples c = storing_length c.loop-j.invariant.1
+shape_of-triples c = storing_length c.loop-j.invariant.0
 
 pub shape_of-points : goal.shape_of-points
-shape_of-points c = storing_length c.loop-j.invariant.2
+shape_of-points c = storing_length c.loop-j.invariant.1
 
 pub returns : goal.returns
-returns c = record { triples = loop_done _ _ _ _ c.loop-j.invariant.1 c.loop-j-test.false; points = loop_done _ _ _ _ c.loop-j.invariant.2 c.loop-j-test.false }
+returns c = record { triples = loop_done _ _ _ _ c.loop-j.invariant.0 c.loop-j-test.false; points = loop_done _ _ _ _ c.loop-j.invariant.1 c.loop-j-test.false }
