@@ -1,6 +1,6 @@
 -- The rows of a viewer's file by itself, and what is known where none has its cause. Assumes nothing.
 use mathlib.Core.Path.{◌≡◌, refl, sym, ap, subst, ◌∙◌}
-use mathlib.Core.Logic.{◌⊎◌, inl, inr, ◌≢◌}
+use mathlib.Core.Logic.{◌⊎◌, inl, inr}
 use mathlib.Core.Bool.{true}
 use mathlib.Core.List.{List, []}
 use Prim.Native.Nat.{ℕ}
@@ -18,14 +18,18 @@ use Rattle.file_components.specs.Parts.{Stands}
 use Rattle.file_steps.specs.Reader.{content_rows, Reads}
 use Rattle.file_steps.specs.Parts.{Loadable}
 use Rattle.file_steps.specs.declared.Loaded.{Loaded}
-use Rattle.file_steps.specs.declared.Loaded.TheVariants.{Refused}
+use Rattle.file_steps.specs.declared.LoadError.{LoadError}
+use Rattle.file_steps.specs.declared.LoadError.TheVariants.{Refused}
 use Rattle.file_steps.proofs.Numbers.{lacks}
 use Rattle.file_steps.proofs.Readers.{contents_fit, refused, after, behind}
+use Rattle.std.specs.Prelude.{Result, Ok, Err}
+use Rattle.refusals.specs.declared.Refusal.{Refusal}
+use Rattle.refusals.specs.declared.Refusal.TheVariants.{Cut, Trailing, Text}
+use Rattle.refusals.specs.Refusals.{as_number, as_refusal, named as named_rows}
+use Rattle.refusals.proofs.Refusals.{above_none}
 use Rattle.vtk_layout.specs.Layout.{located_of}
 use Rattle.vtk_layout.specs.Parts.{Laid}
 use Rattle.vtk_layout.specs.declared.Layout.{Layout}
-use Rattle.vtk_layout.specs.declared.Located.{Located}
-use Rattle.vtk_layout.specs.declared.Located.TheVariants.{Found, Stopped}
 use Rattle.vtk_layout.proofs.Front.{located_stops}
 use Rattle.vtk_reader.specs.Step.{blocks_of, leads_in, types_in, layout_of, stopped, layout_rows, shape_rows, body_rows, file_rows, ReadDone}
 
@@ -77,65 +81,62 @@ module _ (b : List ℕ) (l : Layout) where
 
   -- the ways out of `load`
   module _ {x y w : List ℕ} where
-    pub body_refused : {r : ℕ} → r ≡ first (body_rows b l) → r ≢ 0 → Reads (body_rows b l) b (blocks_of l) x y w (Refused r) x y w
+    pub body_refused : {why : Refusal} → as_number why ≡ first (body_rows b l) → Reads (body_rows b l) b (blocks_of l) x y w (Err (Refused why)) x y w
     body_refused = refused (body_rows b l) b (blocks_of l) x y w body_nine body_thirteen
 
-    pub body_loaded : first (body_rows b l) ≡ 0 → {r : Loaded} {x' y' w' : List ℕ} → Reads [] b (blocks_of l) x y w r x' y' w'
+    pub body_loaded : first (body_rows b l) ≡ 0 → {r : Result Loaded LoadError} {x' y' w' : List ℕ} → Reads [] b (blocks_of l) x y w r x' y' w'
         → Reads (body_rows b l) b (blocks_of l) x y w r x' y' w'
     body_loaded z = after (body_rows b l) b (blocks_of l) x y w body_proper z
 
 -- ---- the layout
 
-layout_proper : (k : Located) → proper (layout_rows k) ≡ true
+layout_proper : (k : Result Layout Refusal) → proper (layout_rows k) ≡ true
 unfolding proper layout_rows
 layout_proper k = refl
 
-pub file_proper : (k : Located) (b : List ℕ) → proper (file_rows k b) ≡ true
+pub file_proper : (k : Result Layout Refusal) (b : List ℕ) → proper (file_rows k b) ≡ true
 unfolding proper file_rows layout_rows body_rows shape_rows content_rows count_rows name_rows
 file_proper k b = refl
 
-file_nine : (k : Located) (b : List ℕ) → lacks 9 (file_rows k b) ≡ true
+pub file_named : (k : Result Layout Refusal) (b : List ℕ) → named_rows (file_rows k b) ≡ true
+unfolding named_rows as_refusal file_rows layout_rows body_rows shape_rows content_rows count_rows name_rows
+file_named k b = refl
+
+file_nine : (k : Result Layout Refusal) (b : List ℕ) → lacks 9 (file_rows k b) ≡ true
 unfolding lacks file_rows layout_rows body_rows shape_rows content_rows count_rows name_rows
 file_nine k b = refl
 
-file_thirteen : (k : Located) (b : List ℕ) → lacks 13 (file_rows k b) ≡ true
+file_thirteen : (k : Result Layout Refusal) (b : List ℕ) → lacks 13 (file_rows k b) ≡ true
 unfolding lacks file_rows layout_rows body_rows shape_rows content_rows count_rows name_rows
 file_thirteen k b = refl
 
-found_clear : (l : Layout) → first (layout_rows (Found l)) ≡ 0
+found_clear : (l : Layout) → first (layout_rows (Ok l)) ≡ 0
 unfolding layout_rows stopped first
 found_clear l = refl
 
 -- a layout that stops has its number first
-stopped_first : (n : ℕ) (b : List ℕ) → (n ≡ 11) ⊎ ((n ≡ 12) ⊎ (n ≡ 14)) → n ≡ first (file_rows (Stopped n) b)
+stopped_first : (why : Refusal) (b : List ℕ) → (why ≡ Cut) ⊎ ((why ≡ Trailing) ⊎ (why ≡ Text)) → as_number why ≡ first (file_rows (Err why) b)
 unfolding file_rows layout_rows stopped first
-stopped_first n b (inl e) = e ∙ sym (rw e refl)
-stopped_first n b (inr (inl e)) = e ∙ sym (rw e refl)
-stopped_first n b (inr (inr e)) = e ∙ sym (rw e refl)
-
-some_number : (n : ℕ) → (n ≡ 11) ⊎ ((n ≡ 12) ⊎ (n ≡ 14)) → n ≢ 0
-some_number n (inl e) z = omega arith
-some_number n (inr (inl e)) z = omega arith
-some_number n (inr (inr e)) z = omega arith
+stopped_first why b (inl e) = rw e refl
+stopped_first why b (inr (inl e)) = rw e refl
+stopped_first why b (inr (inr e)) = rw e refl
 
 -- the ways out of `read_vtk`
-module _ {b x y w : List ℕ} {k : Located} (e : located_of b ≡ k) where
-  by_layout : {r : Loaded} {x' y' w' : List ℕ} → Reads (file_rows k b) b (blocks_of (layout_of k)) x y w r x' y' w' → ReadDone b x y w r x' y' w'
-  by_layout {r} {x'} {y'} {w'} = subst (λ (j : Located). Reads (file_rows j b) b (blocks_of (layout_of j)) x y w r x' y' w') (sym e)
+module _ {b x y w : List ℕ} {k : Result Layout Refusal} (e : located_of b ≡ k) where
+  by_layout : {r : Result Loaded LoadError} {x' y' w' : List ℕ} → Reads (file_rows k b) b (blocks_of (layout_of k)) x y w r x' y' w' → ReadDone b x y w r x' y' w'
+  by_layout {r} {x'} {y'} {w'} = subst (λ (j : Result Layout Refusal). Reads (file_rows j b) b (blocks_of (layout_of j)) x y w r x' y' w') (sym e)
 
-pub located : {b x y w : List ℕ} {l : Layout} {r : Loaded} {x' y' w' : List ℕ} → located_of b ≡ Found l → Reads (body_rows b l) b (blocks_of l) x y w r x' y' w'
+pub located : {b x y w : List ℕ} {l : Layout} {r : Result Loaded LoadError} {x' y' w' : List ℕ} → located_of b ≡ Ok l → Reads (body_rows b l) b (blocks_of l) x y w r x' y' w'
     → ReadDone b x y w r x' y' w'
 unfolding file_rows layout_of
-located {b} {x} {y} {w} {l} e d = by_layout e (behind (layout_rows (Found l)) (body_rows b l) b (blocks_of l) x y w (layout_proper (Found l)) (found_clear l) d)
+located {b} {x} {y} {w} {l} e d = by_layout e (behind (layout_rows (Ok l)) (body_rows b l) b (blocks_of l) x y w (layout_proper (Ok l)) (found_clear l) d)
 
-pub unlocated : {b x y w : List ℕ} {n : ℕ} → located_of b ≡ Stopped n → ReadDone b x y w (Refused n) x y w
-unlocated {b} {x} {y} {w} {n} e =
-    let s = located_stops b n e in
+pub unlocated : {b x y w : List ℕ} {why : Refusal} → located_of b ≡ Err why → ReadDone b x y w (Err (Refused why)) x y w
+unlocated {b} {x} {y} {w} {why} e =
     by_layout e
-    (refused (file_rows (Stopped n) b) b (blocks_of (layout_of (Stopped n))) x y w (file_nine (Stopped n) b) (file_thirteen (Stopped n) b) (stopped_first n b s) (some_number n s))
+    (refused (file_rows (Err why) b) b (blocks_of (layout_of (Err why))) x y w (file_nine (Err why) b) (file_thirteen (Err why) b) (stopped_first why b (located_stops b why e)))
 
 -- a file whose layout stops is refused
-pub stopped_refuses : (b : List ℕ) (n : ℕ) → located_of b ≡ Stopped n → first (file_rows (located_of b) b) ≡ 0 → ⊥
-stopped_refuses b n e z =
-    let s = located_stops b n e in
-    some_number n s (stopped_first n b s ∙ ap (λ (k : Located). first (file_rows k b)) (sym e) ∙ z)
+pub stopped_refuses : (b : List ℕ) (why : Refusal) → located_of b ≡ Err why → first (file_rows (located_of b) b) ≡ 0 → ⊥
+stopped_refuses b why e z =
+    above_none why (stopped_first why b (located_stops b why e) ∙ ap (λ (k : Result Layout Refusal). first (file_rows k b)) (sym e) ∙ z)

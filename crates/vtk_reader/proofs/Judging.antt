@@ -6,12 +6,19 @@ use mathlib.Core.List.{List}
 use Prim.Native.Nat.{ℕ, ◌+◌, ◌*◌, ◌≤◌, ◌<◌, min}
 use native.Mathlib.Nat.{min-eq_left}
 use native.Mathlib.Omega.{arith}
-use borrow.Author.Tests.{lt-ltb, le-ltb}
+use borrow.Author.Tests.{lt-ltb, le-ltb, eqb-true, eqb-false}
+use lib.Dec.{eqb}
 use lib.ListN.{length, get_or, drop, replicate}
 use Rattle.lists.specs.Tables.{all_below, same}
 use Rattle.lists.proofs.Listing.{length_list, list_at, each_on, each_off, each_end}
 use Rattle.lists.proofs.Tests.{falls, stays}
+use Rattle.std.specs.Prelude.{Result, Ok, Err}
 use Rattle.refusals.specs.Rows.{first}
+use Rattle.refusals.specs.Refusals.{number_in}
+use Rattle.refusals.specs.declared.Refusal.{Refusal}
+use Rattle.refusals.specs.declared.Refusal.TheVariants.{CellSize, Bounds, Levels, TooLarge, Length, Byte, Ungraded, Point, NoRoom, NothingKept, Cut, Trailing, Numbers, Text, Shape, Range, Twice}
+use Rattle.refusals.specs.contracts.RefusalPartialEq.TheImpl.{eq-value}
+use Rattle.std.specs.Result.{result_eq}
 use Rattle.mesh.specs.Mesh.{most}
 use Rattle.mesh.specs.Judged.{count_rows, name_rows}
 use Rattle.words.specs.Words.{word_at, words_at, cells_at}
@@ -77,6 +84,34 @@ module _ (b : List ℕ) (at n bound i : ℕ) where
       looking_some t = sym (rw (led_all, named_all, t) refl)
 
 -- ---- `judge`
+
+-- the test whether cells are refused with 15 is that of their number
+shape_test : (unit : Unit → Unit → Bool) (s : Result Unit Refusal) → result_eq unit eq-value.it s (Err Shape) ≡ eqb (number_in s) 15
+shape_test unit (Ok x) = refl
+shape_test unit (Err CellSize) = refl
+shape_test unit (Err Bounds) = refl
+shape_test unit (Err Levels) = refl
+shape_test unit (Err TooLarge) = refl
+shape_test unit (Err Length) = refl
+shape_test unit (Err Byte) = refl
+shape_test unit (Err Ungraded) = refl
+shape_test unit (Err Point) = refl
+shape_test unit (Err NoRoom) = refl
+shape_test unit (Err NothingKept) = refl
+shape_test unit (Err Cut) = refl
+shape_test unit (Err Trailing) = refl
+shape_test unit (Err Numbers) = refl
+shape_test unit (Err Text) = refl
+shape_test unit (Err Shape) = refl
+shape_test unit (Err Range) = refl
+shape_test unit (Err Twice) = refl
+
+module _ (unit : Unit → Unit → Bool) (s : Result Unit Refusal) {t : Bool} (e : t ≡ result_eq unit eq-value.it s (Err Shape)) where
+  pub shape : t ≡ true → number_in s ≡ 15
+  shape h = eqb-true _ _ (sym (shape_test unit s) ∙ sym e ∙ h)
+
+  pub no_shape : t ≡ false → number_in s ≢ 15
+  no_shape h = eqb-false _ _ (sym (shape_test unit s) ∙ sym e ∙ h)
 
 module _ (b : List ℕ) (l : Layout) (m : ℕ) {r : ℕ} (q : r ≡ first (cell_rows b m l.n l.cells)) where
   led : Bool

@@ -15,7 +15,6 @@ use Rattle.lists.proofs.Lent.{all_below_lem}
 use Rattle.lists.proofs.Listing.{same_eq, same_refl}
 use Rattle.refusals.specs.Rows.{Row, ◌when◌, first}
 use Rattle.refusals.specs.Causes.{room_rows}
-use Rattle.refusals.specs.declared.Counted.TheVariants as counted
 use Rattle.refusals.proofs.Rows.{goes_on}
 use Rattle.mesh.specs.Mesh.{points_of, cells_of}
 use Rattle.mesh.specs.Judged.{count_rows, name_rows}
@@ -30,22 +29,23 @@ use Rattle.file_steps.specs.Loaded.{number_of}
 use Rattle.file_steps.specs.Reader.{content_rows, table_rows, number_rows, Reads}
 use Rattle.file_steps.specs.Meshes.{Mesh, Room, Back}
 use Rattle.file_steps.specs.declared.Loaded.{Loaded}
-use Rattle.file_steps.specs.declared.Loaded.TheVariants as loaded
+use Rattle.file_steps.specs.declared.LoadError.{LoadError}
+use Rattle.file_steps.specs.Loaded.{done}
 use Rattle.file_steps.proofs.Theorems.{Says, contents_clear, Answered, reads_mesh, read_answered, read_number_lem, taken, file_left, mesh_in}
 use Rattle.decimal.specs.Text.{text_of}
+use Rattle.std.specs.Prelude.{Result, Ok, Err}
+use Rattle.refusals.specs.declared.Refusal.{Refusal}
 use Rattle.vtk_layout.specs.Texts.{version_line, our_title, feed}
 use Rattle.vtk_layout.specs.Layout.{no_feed, is_title, written, located_of}
 use Rattle.vtk_layout.specs.File.{led, types_of, vtk_file}
 use Rattle.vtk_layout.specs.Parts.{Laid}
 use Rattle.vtk_layout.specs.declared.Layout.{Layout}
-use Rattle.vtk_layout.specs.declared.Located.{Located}
-use Rattle.vtk_layout.specs.declared.Located.TheVariants as located
 use Rattle.vtk_layout.proofs.Sound.{located_laid}
 use Rattle.vtk_layout.proofs.There.{Standing, stands}
 use Rattle.vtk_writer.specs.Step.{vtk_bytes, WriteDone}
 use Rattle.vtk_writer.proofs.Writing.{length_led, length_file}
 use Rattle.vtk_reader.specs.Step.{blocks_of, leads_in, types_in, layout_of, stopped, layout_rows, shape_rows, body_rows, file_rows, ReadDone}
-use Rattle.vtk_reader.proofs.Files.{shape_proper, file_proper, laid_stands, led as led_all, typed, named, stopped_refuses}
+use Rattle.vtk_reader.proofs.Files.{shape_proper, file_proper, file_named, laid_stands, led as led_all, typed, named, stopped_refuses}
 use Rattle.vtk_reader.proofs.Cells.{led_is, block_words, cells_read, leads_right}
 
 -- ---- the file of a mesh, with any title
@@ -115,14 +115,14 @@ module _ (P C : List ℕ) (m : Mesh P C) (b : List ℕ) (l : Layout) (s : Stand 
   unfolding body_rows
   body_clear = goes_on (shape_rows b l) _ (shape_proper b l) refl shape_clear ∙ contents_clear b (blocks_of l) P C m says
 
-  file_clear : first (file_rows (located.Found l) b) ≡ 0
+  file_clear : first (file_rows (Ok l) b) ≡ 0
   unfolding file_rows layout_rows layout_of stopped first
   file_clear = body_clear
 
 -- the layout of such a file is found
 record LocatedAt (P C b : List ℕ) : Type 0 where
   layout : Layout
-  found : located_of b ≡ located.Found layout
+  found : located_of b ≡ Ok layout
   stand : Stand P C b layout
 
 module _ (title P C : List ℕ) (m : Mesh P C) (plain : is_title title ≡ true) where
@@ -173,7 +173,7 @@ title_told (x ∷ t) (y ∷ t') r r' n n' e =
 module _ (t P C t' P' C' : List ℕ) (m : Mesh P C) (m' : Mesh P' C') (plain : is_title t ≡ true) (plain' : is_title t' ≡ true) (e : vtk_file t P C ≡ vtk_file t' P' C') where
   same_mesh : LocatedAt P C (vtk_file t P C) → LocatedAt P' C' (vtk_file t' P' C') → (P ≡ P') × (C ≡ C')
   same_mesh k k' =
-      let q : located.Found k.layout ≡ located.Found k'.layout = sym k.found ∙ ap located_of e ∙ k'.found in
+      let q : Ok k.layout ≡ Ok k'.layout = sym k.found ∙ ap located_of e ∙ k'.found in
       let l : k.layout ≡ k'.layout = cc in
       let a = says P C m (vtk_file t P C) k.layout k.stand in
       let a' = says P' C' m' (vtk_file t' P' C') k'.layout k'.stand in (
@@ -207,10 +207,10 @@ abbrev pub read_numbers : List ℕ
 read_numbers = 0 ∷ 4 ∷ 8 ∷ 9 ∷ 11 ∷ 12 ∷ 13 ∷ 14 ∷ 15 ∷ []
 
 -- a file is answered with 0, or refused with one of the others
-pub read_numbers_lem : (b x y w : List ℕ) {r : Loaded} {x' y' w' : List ℕ} → ReadDone b x y w r x' y' w' → among (number_of r) read_numbers ≡ true
+pub read_numbers_lem : (b x y w : List ℕ) {r : Result Loaded LoadError} {x' y' w' : List ℕ} → ReadDone b x y w r x' y' w' → among (number_of r) read_numbers ≡ true
 unfolding among within file_rows layout_rows body_rows shape_rows content_rows count_rows name_rows table_rows room_rows number_rows
 read_numbers_lem b x y w d =
-    ap (λ (k : ℕ). among k read_numbers) (read_number_lem (file_rows (located_of b) b) b (blocks_of (layout_of (located_of b))) x y w d)
+    ap (λ (k : ℕ). among k read_numbers) (read_number_lem (file_rows (located_of b) b) b (blocks_of (layout_of (located_of b))) x y w d (file_named (located_of b) b))
     ∙ first_within read_numbers _ refl refl
 
 -- ---- what is written reads back
@@ -220,20 +220,20 @@ unfolding our_title no_feed text_of
 plain_title = refl
 
 -- a file of a mesh, with any title, reads as that mesh
-pub file_reads : (title P C : List ℕ) → Mesh P C → is_title title ≡ true → (x y v : List ℕ) {a : Loaded} {x' y' v' : List ℕ}
+pub file_reads : (title P C : List ℕ) → Mesh P C → is_title title ≡ true → (x y v : List ℕ) {a : Result Loaded LoadError} {x' y' v' : List ℕ}
     → Room (length x) (length y) (length v) (points_of P) (cells_of C) → ReadDone (vtk_file title P C) x y v a x' y' v' → Back P C x y v a x' y' v'
 unfolding layout_of
 file_reads title P C m plain x y v {a} {x'} {y'} {v'} r d = by_layout (locates title P C m plain)
   where
     by_layout : LocatedAt P C (vtk_file title P C) → Back P C x y v a x' y' v'
     by_layout k =
-        reads_mesh (file_rows (located.Found k.layout) (vtk_file title P C)) (vtk_file title P C) (blocks_of k.layout) x y v
-        (subst (λ (j : Located). Reads (file_rows j (vtk_file title P C)) (vtk_file title P C) (blocks_of (layout_of j)) x y v a x' y' v') k.found d) P C
-        (file_proper (located.Found k.layout) (vtk_file title P C)) (file_clear P C m (vtk_file title P C) k.layout k.stand) m
+        reads_mesh (file_rows (Ok k.layout) (vtk_file title P C)) (vtk_file title P C) (blocks_of k.layout) x y v
+        (subst (λ (j : Result Layout Refusal). Reads (file_rows j (vtk_file title P C)) (vtk_file title P C) (blocks_of (layout_of j)) x y v a x' y' v') k.found d) P C
+        (file_proper (Ok k.layout) (vtk_file title P C)) (file_clear P C m (vtk_file title P C) k.layout k.stand) m
         (says P C m (vtk_file title P C) k.layout k.stand) r
 
 -- an answer of `write_vtk`
-module _ (P C o w : List ℕ) {bytes : ℕ} {o' w' : List ℕ} (bits : all_below 4294967296 P ≡ true) (d : WriteDone P C o w (counted.Done bytes) o' w') where
+module _ (P C o w : List ℕ) {bytes : ℕ} {o' w' : List ℕ} (bits : all_below 4294967296 P ≡ true) (d : WriteDone P C o w (Ok bytes) o' w') where
   pub written_mesh : Mesh P C
   written_mesh = taken 2 (vtk_bytes P C) (vtk_file our_title P C) P C o w d bits
 
@@ -242,7 +242,7 @@ module _ (P C o w : List ℕ) {bytes : ℕ} {o' w' : List ℕ} (bits : all_below
   written_file = file_left 2 (vtk_bytes P C) (vtk_file our_title P C) P C o w d (length_file P C written_mesh.points)
 
   -- and read with room, they are the mesh that was written
-  pub reads_back : (x y v : List ℕ) {a : Loaded} {x' y' v' : List ℕ} → Room (length x) (length y) (length v) (points_of P) (cells_of C)
+  pub reads_back : (x y v : List ℕ) {a : Result Loaded LoadError} {x' y' v' : List ℕ} → Room (length x) (length y) (length v) (points_of P) (cells_of C)
       → ReadDone (take bytes o') x y v a x' y' v' → Back P C x y v a x' y' v'
   reads_back x y v {a} {x'} {y'} {v'} r l =
       file_reads our_title P C written_mesh plain_title x y v r (subst (λ (b : List ℕ). ReadDone b x y v a x' y' v') written_file l)
@@ -305,7 +305,7 @@ pub record Given (b x' y' : List ℕ) (p n : ℕ) : Type 0 where
   pub cells : cells_of (take (4 * n) y') ≡ n
   pub bytes : b ≡ vtk_file title (take (3 * p) x') (take (4 * n) y')
 
-given_by : (b : List ℕ) → all_below 256 b ≡ true → (l : Layout) → Laid b l → {p n : ℕ} (x' y' : List ℕ) → Answered (file_rows (located.Found l) b) b (blocks_of l) p n x' y'
+given_by : (b : List ℕ) → all_below 256 b ≡ true → (l : Layout) → Laid b l → {p n : ℕ} (x' y' : List ℕ) → Answered (file_rows (Ok l) b) b (blocks_of l) p n x' y'
     → Given b x' y' p n
 unfolding file_rows layout_rows layout_of stopped first
 given_by b s l h {p} {n} x' y' a =
@@ -319,15 +319,15 @@ given_by b s l h {p} {n} x' y' a =
       bytes = bytes_are b s l h z a.right ∙ ap₂ (vtk_file h.title) (sym a.points) (sym a.cells);
     }
 
-pub read_given : (b x y w : List ℕ) {p n : ℕ} {x' y' w' : List ℕ} → all_below 256 b ≡ true → ReadDone b x y w (loaded.Done p n) x' y' w' → Given b x' y' p n
+pub read_given : (b x y w : List ℕ) {p n : ℕ} {x' y' w' : List ℕ} → all_below 256 b ≡ true → ReadDone b x y w (done p n) x' y' w' → Given b x' y' p n
 unfolding layout_of
 read_given b x y w {p} {n} {x'} {y'} s d =
     by_layout (located_of b) refl (read_answered (file_rows (located_of b) b) b (blocks_of (layout_of (located_of b))) x y w (file_proper (located_of b) b) d)
   where
-    by_layout : (k : Located) → located_of b ≡ k → Answered (file_rows (located_of b) b) b (blocks_of (layout_of (located_of b))) p n x' y' → Given b x' y' p n
-    by_layout (located.Stopped k) e a = absurd (stopped_refuses b k e a.clear_rows)
-    by_layout (located.Found l) e a =
-        given_by b s l (located_laid b l e) x' y' (subst (λ (j : Located). Answered (file_rows j b) b (blocks_of (layout_of j)) p n x' y') e a)
+    by_layout : (k : Result Layout Refusal) → located_of b ≡ k → Answered (file_rows (located_of b) b) b (blocks_of (layout_of (located_of b))) p n x' y' → Given b x' y' p n
+    by_layout (Err k) e a = absurd (stopped_refuses b k e a.clear_rows)
+    by_layout (Ok l) e a =
+        given_by b s l (located_laid b l e) x' y' (subst (λ (j : Result Layout Refusal). Answered (file_rows j b) b (blocks_of (layout_of j)) p n x' y') e a)
 
 -- so no other bytes read as that mesh, but for the title
 pub one_file : (b x y b' x' y' : List ℕ) {p n p' n' : ℕ} (g : Given b x y p n) (g' : Given b' x' y' p' n')

@@ -1,15 +1,16 @@
 -- `read_vtk` (rules R1.5 to R1.10). b is the file, x the table of points, y that of cells and w the work table, as lent.
-use Rattle.std.specs.Prelude.{Bool, true, false, not, List, [], ◌∷◌, ◌++◌, ℕ, ◌+◌, ◌*◌, eqb, replicate}
+use Rattle.std.specs.Prelude.{Bool, true, false, not, List, [], ◌∷◌, ◌++◌, ℕ, ◌+◌, ◌*◌, eqb, replicate, Result, Ok, Err}
 use Rattle.lists.specs.Tables.{list_of, same}
 use Rattle.refusals.specs.Rows.{Row, ◌when◌}
+use Rattle.refusals.specs.Refusals.{as_number}
+use Rattle.refusals.specs.declared.Refusal.{Refusal}
 use Rattle.words.specs.Words.{word_at, words_at}
 use Rattle.file_components.specs.declared.Blocks.{Blocks}
 use Rattle.file_steps.specs.Reader.{content_rows, Reads}
 use Rattle.file_steps.specs.declared.Loaded.{Loaded}
+use Rattle.file_steps.specs.declared.LoadError.{LoadError}
 use Rattle.vtk_layout.specs.Layout.{located_of}
 use Rattle.vtk_layout.specs.declared.Layout.{Layout}
-use Rattle.vtk_layout.specs.declared.Located.{Located}
-use Rattle.vtk_layout.specs.declared.Located.TheVariants.{Found, Stopped}
 
 -- ---- where a layout has its mesh
 
@@ -34,19 +35,19 @@ abbrev pub types_in : List ℕ → ℕ → ℕ → List ℕ
 types_in b n at = words_at true b at n
 
 -- a layout that is not found is of no points and no cells
-unfoldable pub layout_of : Located → Layout
-layout_of (Found l) = l
-layout_of (Stopped number) = record { p = 0; n = 0; points = 0; cells = 0; types = 0; numbers = 0 }
+unfoldable pub layout_of : Result Layout Refusal → Layout
+layout_of (Ok l) = l
+layout_of (Err why) = record { p = 0; n = 0; points = 0; cells = 0; types = 0; numbers = 0 }
 
 -- ---- the refusals
 
 -- reading from the front stopped with the number k
-unfoldable pub stopped : ℕ → Located → Bool
-stopped k (Found l) = false
-stopped k (Stopped number) = eqb number k
+unfoldable pub stopped : ℕ → Result Layout Refusal → Bool
+stopped k (Ok l) = false
+stopped k (Err why) = eqb (as_number why) k
 
 -- a byte departs from the layout, or the file ends before one does; bytes follow the last line feed
-unfoldable pub layout_rows : Located → List Row
+unfoldable pub layout_rows : Result Layout Refusal → List Row
 layout_rows k = 14 when stopped 14 k ∷ 11 when stopped 11 k ∷ 12 when stopped 12 k ∷ []
 
 -- a cell is not led by a four, or is not of type 10
@@ -58,8 +59,8 @@ shape_rows b l =
 unfoldable pub body_rows : List ℕ → Layout → List Row
 body_rows b l = shape_rows b l ++ content_rows b (blocks_of l)
 
-unfoldable pub file_rows : Located → List ℕ → List Row
+unfoldable pub file_rows : Result Layout Refusal → List ℕ → List Row
 file_rows k b = layout_rows k ++ body_rows b (layout_of k)
 
-abbrev pub ReadDone : (b x y w : List ℕ) → Loaded → (x' y' w' : List ℕ) → Type 0
+abbrev pub ReadDone : (b x y w : List ℕ) → Result Loaded LoadError → (x' y' w' : List ℕ) → Type 0
 ReadDone b x y w r x' y' w' = Reads (file_rows (located_of b) b) b (blocks_of (layout_of (located_of b))) x y w r x' y' w'

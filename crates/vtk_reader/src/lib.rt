@@ -1,82 +1,75 @@
 // The step `read_vtk`: the mesh of a viewer's file, on any bytes.
 #![tactic(auto)]
 
-ghost use Rattle.std.specs.Prelude.{◌≡◌, ◌+◌, ◌*◌, ◌≤◌, min, length};
+ghost use Rattle.std.specs.Prelude.{◌≡◌, ◌+◌, ◌*◌, ◌≤◌, length};
 ghost use Rattle.refusals.specs.Rows.{first};
+ghost use Rattle.refusals.specs.Refusals.{number_in};
 ghost use Rattle.vtk_layout.specs.Parts.{Laid};
 ghost use Rattle.file_steps.specs.Reader.{Reads};
 ghost use Rattle.vtk_reader.specs.Step.{blocks_of, body_rows, ReadDone};
 ghost use Rattle.vtk_reader.specs.Parts.{cell_rows};
 
 use file_components::Blocks;
-use file_steps::Loaded;
-use vtk_layout::{Layout, Located};
+use file_steps::{LoadError, Loaded};
+use refusals::Refusal;
+use vtk_layout::Layout;
 
-// A count as a word, the greatest word where it does not fit.
-fn clipped(count: usize) -> u32
-    ensures { result ≡ min count 4294967295 }
-{
-    if 4_294_967_295 < count {
-        return 4_294_967_295;
-    }
-    count as u32
-}
-
-// The number that n cells are refused with: 15 where one is not led by a four, 8 where one names a number not below the bound, or 0.
-fn judge_cells(file: &[u8], at: usize, n: usize, bound: u32) -> u32
+// What n cells are refused with: 15 where one is not led by a four, 8 where one names a number not below the bound, or nothing.
+fn judge_cells(file: &[u8], at: usize, n: usize, bound: u32) -> Result<(), Refusal>
     requires { at + 20 * n ≤ length file.now }
-    ensures { result ≡ first (cell_rows file.now bound n at) }
+    ensures { number_in result ≡ first (cell_rows file.now bound n at) }
 {
     let mut named = true;
-    let mut i: usize = 0;
-    while i < n {
+    for i in 0..n {
         if words::word(file, at + 20 * i, true) != 4 {
-            return 15;
+            return Err(Refusal::Shape);
         }
         if !words::four_below(file, at + 20 * i + 4, true, bound) {
             named = false;
         }
-        i += 1;
     }
-    if named {
-        return 0;
+    if !named {
+        return Err(Refusal::Point);
     }
-    8
+    Ok(())
 }
 
-// The number that a file is refused with whose layout is found, before any table is looked at: 15, 4, 8, or 0. Where the points are too
-// many for a word the cells are compared with another bound, but the answer is then 15 or 4.
-fn judge(file: &[u8], l: Layout) -> u32
+// What a file is refused with whose layout is found, before any table is looked at: 15, 4, 8, or nothing. Where the points are too many
+// for a word the cells are compared with another bound, but the answer is then 15 or 4.
+fn judge(file: &[u8], l: Layout) -> Result<(), Refusal>
     requires { Laid file.now l }
-    ensures { result ≡ first (body_rows file.now l) }
+    ensures { number_in result ≡ first (body_rows file.now l) }
 {
     let p = l.p;
     let n = l.n;
-    let number = judge_cells(file, l.cells, n, clipped(p));
-    if number == 15 {
-        return 15;
+    let cells = judge_cells(file, l.cells, n, p.min(4_294_967_295) as u32);
+    if cells == Err(Refusal::Shape) {
+        return cells;
     }
     if !words::all_are(file, l.types, true, n, 10) {
-        return 15;
+        return Err(Refusal::Shape);
     }
     if mesh::MOST < p {
-        return 4;
+        return Err(Refusal::TooLarge);
     }
     if mesh::MOST < n {
-        return 4;
+        return Err(Refusal::TooLarge);
     }
-    number
+    cells
 }
 
 // Reads the mesh of a file whose layout is found. A cell is five words, of which the first leads it.
-fn load(file: &[u8], l: Layout, points: &mut [u32], cells: &mut [u32], work: &mut [u32]) -> Loaded
+fn load(
+    file: &[u8],
+    l: Layout,
+    points: &mut [u32],
+    cells: &mut [u32],
+    work: &mut [u32],
+) -> Result<Loaded, LoadError>
     requires { Laid file.now l }
     ensures { Reads (body_rows file.now l) file.now (blocks_of l) points.old cells.old work.old result points.new cells.new work.new }
 {
-    let number = judge(file, l);
-    if number != 0 {
-        return Loaded::Refused(number);
-    }
+    judge(file, l)?;
     let s = Blocks {
         p: l.p,
         n: l.n,
@@ -93,11 +86,14 @@ fn load(file: &[u8], l: Layout, points: &mut [u32], cells: &mut [u32], work: &mu
 // Reads the mesh of a viewer's file. Refused with 14 or 11, whichever comes first from the front, then 12, 15, 4, 8, with 9 where a table
 // has no room for the points and cells, which it then carries, and with 13: points and cells are then as lent. Answered with points and cells.
 // On an answer and on 13 the first 2 entries a point of `work` are zero, and else it is as lent.
-pub fn read_vtk(file: &[u8], points: &mut [u32], cells: &mut [u32], work: &mut [u32]) -> Loaded
+pub fn read_vtk(
+    file: &[u8],
+    points: &mut [u32],
+    cells: &mut [u32],
+    work: &mut [u32],
+) -> Result<Loaded, LoadError>
     ensures { ReadDone file.now points.old cells.old work.old result points.new cells.new work.new }
 {
-    match vtk_layout::locate(file) {
-        Located::Found(l) => load(file, l, points, cells, work),
-        Located::Stopped(number) => Loaded::Refused(number),
-    }
+    let l = vtk_layout::locate(file)?;
+    load(file, l, points, cells, work)
 }

@@ -34,8 +34,8 @@ loop-i-preserved c =
     let r = c.four_below.ensures in
     elim c.if-not-four_below.branch [ then-not-four_below k ↦ looking_past _ _ _ _ _ _ w h e f (failed r k.if-not-four_below.true) k.named-is | else-not-four_below k ↦ looking_on _ _ _ _ _ _ w h e f (passed r k.if-not-four_below.false) k.named-is ]
 
-pub returns-then-named : goal.returns-then-named
-returns-then-named c = looking_all _ _ _ _ _ _ c.loop-i.invariant c.loop-i-test.false c.if-named.true
+pub returns-then-not-named : goal.returns-then-not-named
+returns-then-not-named c = looking_some _ _ _ _ _ _ c.loop-i.invariant c.loop-i-test.false c.if-not-named.true
 
 pub returns : goal.returns
-returns c = looking_some _ _ _ _ _ _ c.loop-i.invariant c.loop-i-test.false c.if-named.false
+returns c = looking_all _ _ _ _ _ _ c.loop-i.invariant c.loop-i-test.false c.if-not-named.false

@@ -1,13 +1,16 @@
-use mathlib.Core.Path.{sym, ◌∙◌}
+use mathlib.Core.Path.{sym}
+use Rattle.std.proofs.lemmas.Result.{err_from_is_err_and}
 use Rattle.vtk_layout.proofs.Sound.{located_laid}
 use Rattle.vtk_reader.proofs.Files.{located, unlocated}
 use Rattle.vtk_reader.proofs.read_vtk.Goals as goal
 
+pub returns-in_err-l : goal.returns-in_err-l
+returns-in_err-l c =
+    let p = err_from_is_err_and c.from_residual.result c.from_residual.ensures.1 in
+    rw (p.1, p.2) (unlocated (sym c.in_err-l.ensures))
+
 pub load-requires : goal.load-requires
-load-requires c = located_laid _ _ (sym c.locate.ensures ∙ c.in-Found.is)
+load-requires c = located_laid _ _ (sym c.in_ok-l.ensures)
 
-pub returns-in-Found : goal.returns-in-Found
-returns-in-Found c = located (sym c.locate.ensures ∙ c.in-Found.is) c.load.ensures
-
-pub returns-in-Stopped : goal.returns-in-Stopped
-returns-in-Stopped c = unlocated (sym c.locate.ensures ∙ c.in-Stopped.is)
+pub returns : goal.returns
+returns c = located (sym c.in_ok-l.ensures) c.load.ensures
