@@ -19,7 +19,7 @@ use Rattle.mesh.specs.Mesh.{cells_of, Cells}
 use Rattle.links.specs.Labels.{label_at}
 use Rattle.groups.specs.Parts.{Labelled}
 use Rattle.representatives.specs.Highest.{is_highest, representatives_of, centroid_bits, centroids_of}
-use Rattle.representatives.specs.Parts.{is_last, Readable, RoomFor, Storable, ListedAt, Storing, Listed}
+use Rattle.representatives.specs.Parts.{is_last, RoomFor, Storable, ListedAt, Storing, Listed}
 
 pub centroid_three : (P C : List ℕ) (i : ℕ) → length (centroid_bits P C i) ≡ 3
 unfolding centroid_bits
@@ -28,12 +28,6 @@ centroid_three P C i = refl
 -- ---- the last cell of a group is its highest
 
 module _ (C X w : List ℕ) (n : ℕ) (l : Labelled C X w n) where
-  pub readable : (i : ℕ) → i < cells_of C → Readable X w n i
-  readable i h = record {
-    inside = omega (arith, l.sized.long);
-    root = λ z. omega (arith, l.root i h z, l.sized.long);
-  }
-
   pub last_highest : (i : ℕ) → i < cells_of C → is_last X w n i ≡ is_highest C X (cells_of C) i
   unfolding is_last is_highest
   last_highest i h = go (eq_or (get_or X i 0) 0)
@@ -135,9 +129,6 @@ module _ (P C X w o₀ z₀ o z : List ℕ) (n i k : ℕ) (l : Listing P C X w o
 -- ---- one cell
 
 module _ (P C o z : List ℕ) (i k : ℕ) where
-  pub listed_not : {t : Bool} → t ≡ false → ListedAt P C o z o z t i k k
-  listed_not t = record { number = stored_none o _ k (rw t refl); centroid = stored_none z _ (3 * k) (rw t refl) }
-
   pub listed_one : {t : Bool} {z' : List ℕ} → t ≡ true → z' ≡ sets z (3 * k) (centroid_bits P C i) → ListedAt P C o z (set o k i) z' t i k (k + 1)
   listed_one t e = record {
     number = rw t (record { count = refl; kept = refl });

@@ -16,18 +16,19 @@ use Rattle.lists.proofs.Cases.{eq_or}
 use Rattle.lists.proofs.Lent.{as_new, determined}
 use Rattle.refusals.specs.Rows.{first, InTurn, rising, caused, lower}
 use Rattle.refusals.specs.Causes.{work_rows, each_rows, answer_rows, room_rows}
-use Rattle.refusals.specs.Counted.{number_of, values_of}
-use Rattle.refusals.specs.declared.Counted.{Counted}
-use Rattle.refusals.specs.declared.Counted.TheVariants.{Done, Refused, Short}
+use Rattle.std.specs.Prelude.{Result, Ok, Err}
+use Rattle.refusals.specs.Refusals.{count_number, count_values}
+use Rattle.refusals.specs.declared.CountError.{CountError}
+use Rattle.refusals.specs.declared.CountError.TheVariants.{Short}
 use Rattle.refusals.proofs.Rows.{unless_none, unless_some, in_turn, exactly}
-use Rattle.refusals.proofs.Counting.{room_number, counted_number}
+use Rattle.refusals.proofs.Refusals.{above_none, room_number, counted_number}
 use Rattle.mesh.specs.Mesh.{cells_of}
 use Rattle.mesh.specs.Judged.{count_rows, whole_rows, size_rows, name_rows}
 use Rattle.links.specs.Labels.{label_at}
 use Rattle.links.specs.Walks.{Walk, Share}
 use Rattle.links.proofs.Groups.{label_joined, label_highest}
 use Rattle.groups.specs.Judged.{crossed_rows}
-use Rattle.groups.proofs.Unrefused.{crossed_proper}
+use Rattle.groups.proofs.Unrefused.{crossed_proper, crossed_named}
 use Rattle.representatives.specs.Highest.{is_highest, representatives_of, centroid_bits, centroids_of}
 use Rattle.representatives.specs.Step.{count_of, input_rows, representatives_rows, listed_of, represented_of, RepresentativesDone}
 use Rattle.lists.proofs.Passing.{those_pass, those_all, those_rise, spread_length, spread_at}
@@ -72,22 +73,23 @@ module _ (C X : List ℕ) (n : ℕ) where
 -- ---- each refusal exactly when: in its turn, which is the lowest first
 
 module _ (P C X o z w : List ℕ) where
-  number_is : number_of (represented_of P C X o z w) ≡ first (representatives_rows P C X o z w)
+  number_is : count_number (represented_of P C X o z w) ≡ first (representatives_rows P C X o z w)
   unfolding represented_of listed_of first room_rows
   number_is =
       let k : ℕ = count_of C X in
       counted_number (input_rows P C X w) (room_rows (length o) k ++ room_rows (length z / 3) k) _ (crossed_proper (length P) C X (length w) 1 1)
+      (crossed_named (length P) C X (length w) 1 1)
       (room_number (length o) k k _ (room_rows (length z / 3) k) (room_number (length z / 3) k k _ [] refl))
 
-  pub representatives_in_turn : (k : ℕ) → 0 < k → (number_of (represented_of P C X o z w) ≡ k) ↔ InTurn k (representatives_rows P C X o z w)
+  pub representatives_in_turn : (k : ℕ) → 0 < k → (count_number (represented_of P C X o z w) ≡ k) ↔ InTurn k (representatives_rows P C X o z w)
   representatives_in_turn = in_turn (representatives_rows P C X o z w) number_is
 
   pub representatives_exactly : (k : ℕ) → 0 < k
-      → (number_of (represented_of P C X o z w) ≡ k) ↔ ((caused k (representatives_rows P C X o z w) ≡ true) × (lower k (representatives_rows P C X o z w) ≡ false))
+      → (count_number (represented_of P C X o z w) ≡ k) ↔ ((caused k (representatives_rows P C X o z w) ≡ true) × (lower k (representatives_rows P C X o z w) ≡ false))
   unfolding rising crossed_rows size_rows count_rows whole_rows work_rows each_rows answer_rows name_rows room_rows
   representatives_exactly = exactly (representatives_rows P C X o z w) refl number_is
 
-  pub representatives_one : Determined (λ (a : Counted × List ℕ × List ℕ × List ℕ). RepresentativesDone P C X o z w a.0 a.1 a.2 a.3)
+  pub representatives_one : Determined (λ (a : Result ℕ CountError × List ℕ × List ℕ × List ℕ). RepresentativesDone P C X o z w a.0 a.1 a.2 a.3)
   representatives_one = determined (λ a d i. (d.answer i, d.numbers i, d.centroids i, d.work i))
 
   -- ---- the tables of an answer
@@ -99,33 +101,33 @@ module _ (P C X o z w : List ℕ) where
     pub rising : (j k : ℕ) → j < k → k < count → get_or o' j 0 < get_or o' k 0
     pub centroid : (k b : ℕ) → k < count → b < 3 → get_or z' (3 * k + b) 0 ≡ get_or (centroid_bits P C (get_or o' k 0)) b 0
 
-  listed_is : number_of (listed_of C X o z) ≡ 0 → listed_of C X o z ≡ Done (count_of C X)
+  listed_is : count_number (listed_of C X o z) ≡ 0 → listed_of C X o z ≡ Ok (count_of C X)
   unfolding listed_of
   listed_is = go (ltb (length o) (count_of C X)) (ltb (length z / 3) (count_of C X))
     where
-      go : (s t : Bool) → number_of (cond s (Short (count_of C X)) (cond t (Short (count_of C X)) (Done (count_of C X)))) ≡ 0
-          → cond s (Short (count_of C X)) (cond t (Short (count_of C X)) (Done (count_of C X))) ≡ Done (count_of C X)
+      go : (s t : Bool) → count_number {A = ℕ} (cond s (Err (Short (count_of C X))) (cond t (Err (Short (count_of C X))) (Ok (count_of C X)))) ≡ 0
+          → cond s (Err (Short (count_of C X))) (cond t (Err (Short (count_of C X))) (Ok (count_of C X))) ≡ Ok (count_of C X)
       go true t e = absurd (omega arith)
       go false true e = absurd (omega arith)
       go false false e = refl
 
-  answer_is : number_of (represented_of P C X o z w) ≡ 0 → represented_of P C X o z w ≡ Done (count_of C X)
+  answer_is : count_number (represented_of P C X o z w) ≡ 0 → represented_of P C X o z w ≡ Ok (count_of C X)
   unfolding represented_of
   answer_is e = go (eq_or (first (input_rows P C X w)) 0)
     where
-      go : (first (input_rows P C X w) ≡ 0) ⊎ (first (input_rows P C X w) ≢ 0) → represented_of P C X o z w ≡ Done (count_of C X)
+      go : (first (input_rows P C X w) ≡ 0) ⊎ (first (input_rows P C X w) ≢ 0) → represented_of P C X o z w ≡ Ok (count_of C X)
       go (inl q) =
-          let a : represented_of P C X o z w ≡ listed_of C X o z = unless_none (first (input_rows P C X w)) Refused (listed_of C X o z) q in
-          a ∙ listed_is (sym (ap number_of a) ∙ e)
-      go (inr d) = absurd (d (sym (ap number_of (unless_some (first (input_rows P C X w)) Refused (listed_of C X o z) d)) ∙ e))
+          let a : represented_of P C X o z w ≡ listed_of C X o z = unless_none _ _ _ q in
+          a ∙ listed_is (sym (ap (λ (a : Result ℕ CountError). count_number a) a) ∙ e)
+      go (inr d) = absurd (above_none _ (sym (ap (λ (a : Result ℕ CountError). count_number a) (unless_some _ _ (listed_of C X o z) d)) ∙ e))
 
-  module _ {r : Counted} {o' z' w' : List ℕ} {count : ℕ} (d : RepresentativesDone P C X o z w r o' z' w') (e : r ≡ Done count) where
-    number_zero : number_of (represented_of P C X o z w) ≡ 0
-    number_zero = ap number_of (sym d.answer ∙ e)
+  module _ {r : Result ℕ CountError} {o' z' w' : List ℕ} {count : ℕ} (d : RepresentativesDone P C X o z w r o' z' w') (e : r ≡ Ok count) where
+    number_zero : count_number (represented_of P C X o z w) ≡ 0
+    number_zero = ap (λ (a : Result ℕ CountError). count_number a) (sym d.answer ∙ e)
 
     count_is : count ≡ count_of C X
     count_is =
-        let v : count ∷ [] ≡ count_of C X ∷ [] = ap values_of (sym e ∙ d.answer ∙ answer_is number_zero) in
+        let v : count ∷ [] ≡ count_of C X ∷ [] = ap count_values (sym e ∙ d.answer ∙ answer_is number_zero) in
         ap (λ (l : List ℕ). get_or l 0 0) v
 
     number_at : (k : ℕ) → k < count → get_or o' k 0 ≡ get_or (representatives_of C X (cells_of C)) k 0

@@ -12,7 +12,7 @@ use Rattle.mesh.specs.Mesh.{cell_of}
 use Rattle.volume.specs.Cell.{point_of, corners_of}
 use Rattle.groups.specs.Judged.{crossed_rows}
 use Rattle.representatives.specs.Highest.{is_highest, representatives_of, centroid_bits, centroids_of}
-use Rattle.refusals.specs.Counted.{number_of, values_of}
+use Rattle.refusals.specs.Refusals.{as_refusal, count_number, count_values}
 use Rattle.representatives.specs.Step.{listed_of, represented_of, numbers_after, centroids_after, work_after}
 
 -- how many points there are, at 1, 1, 1 each; cells and crossing answers; the lengths of the result tables and the work, which hold
@@ -67,9 +67,9 @@ asked k =
     let z = sevens k.centroids in
     let w = sevens k.work in
     let a = represented_of P k.cells k.crossing o z w in
-    case k.points k.cells k.crossing k.numbers k.centroids k.work (number_of a) (values_of a)
+    case k.points k.cells k.crossing k.numbers k.centroids k.work (count_number a) (count_values a)
     (numbers_after a k.cells k.crossing o) (centroids_after a P k.cells k.crossing z) (work_after a P k.cells w)
 
 examples : map asked table ≡ table
-unfolding of_bits to_bits add div first unless count_rows whole_rows work_rows size_rows each_rows answer_rows name_rows all_below among run those spread any shares touched taken_over add_cell labels label_at cell_of point_of corners_of crossed_rows is_highest representatives_of centroid_bits centroids_of listed_of represented_of
+unfolding of_bits to_bits add div first unless as_refusal count_rows whole_rows work_rows size_rows each_rows answer_rows name_rows all_below among run those spread any shares touched taken_over add_cell labels label_at cell_of point_of corners_of crossed_rows is_highest representatives_of centroid_bits centroids_of listed_of represented_of
 examples = refl

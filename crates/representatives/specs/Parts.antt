@@ -1,7 +1,7 @@
 -- What the parts of the code ask and give.
-use Rattle.std.specs.Prelude.{◌≡◌, Bool, true, cond, ◌&&◌, List, [], ◌∷◌, ℕ, ◌+◌, ◌*◌, ◌≤◌, ◌<◌, eqb, length, get_or}
+use Rattle.std.specs.Prelude.{◌≡◌, Bool, true, cond, ◌&&◌, List, [], ◌∷◌, ℕ, ◌+◌, ◌*◌, ◌≤◌, ◌<◌, eqb, length, get_or, Result}
 use Rattle.lists.specs.Runs.{Stored}
-use Rattle.refusals.specs.declared.Counted.{Counted}
+use Rattle.refusals.specs.declared.CountError.{CountError}
 use Rattle.mesh.specs.Mesh.{points_of, cells_of, Cells}
 use Rattle.groups.specs.Parts.{Labelled}
 use Rattle.representatives.specs.Highest.{representatives_of, centroid_bits, centroids_of}
@@ -46,7 +46,7 @@ pub record Listed (P C X o' z' : List ℕ) : Type 0 where
   pub numbers : o' ≡ representatives_of C X (cells_of C)
   pub centroids : z' ≡ centroids_of P C X (cells_of C)
 
-pub record Represents (P C X o z : List ℕ) (r : Counted) (o' z' : List ℕ) : Type 0 where
+pub record Represents (P C X o z : List ℕ) (r : Result ℕ CountError) (o' z' : List ℕ) : Type 0 where
   pub answer : r ≡ listed_of C X o z
   pub numbers : o' ≡ numbers_after (listed_of C X o z) C X o
   pub centroids : z' ≡ centroids_after (listed_of C X o z) P C X z

@@ -7,7 +7,7 @@ ghost use Rattle.groups.specs.Parts.{Laid, Labelled};
 ghost use Rattle.representatives.specs.Step.{RepresentativesDone};
 ghost use Rattle.representatives.specs.Parts.{Readable, is_last, Storable, ListedAt, Storing, Listed, RoomFor, Found, Represents};
 
-use refusals::Counted;
+use refusals::CountError;
 
 // Whether the cell i is not crossed, and the last of its group.
 fn is_last(crossing: &[u8], work: &[u32], n: usize, i: usize) -> bool
@@ -24,14 +24,11 @@ fn count_last(cells: &[u32], crossing: &[u8], work: &[u32], n: usize) -> usize
     requires { Labelled cells.now crossing.now work.now n }
     ensures { RoomFor cells.now crossing.now result }
 {
-    let many = cells.len() / 4;
     let mut count: usize = 0;
-    let mut i: usize = 0;
-    while i < many {
+    for i in 0..cells.len() / 4 {
         if is_last(crossing, work, n, i) {
             count += 1;
         }
-        i += 1;
     }
     count
 }
@@ -53,12 +50,14 @@ fn list_at(
         return k;
     }
     let z = volume::centroid(volume::corners_at(points, mesh::cell_at(cells, i)));
-    lists::store3(
+    lists::store_all(
         centroids,
         3 * k,
-        float32::from_f32(z.x),
-        float32::from_f32(z.y),
-        float32::from_f32(z.z),
+        [
+            float32::from_f32(z.x),
+            float32::from_f32(z.y),
+            float32::from_f32(z.z),
+        ],
     );
     numbers[k] = i as u32;
     k + 1
@@ -76,13 +75,10 @@ fn list_last(
     requires { Storing points.now cells.now crossing.now numbers.old centroids.old work.now n }
     ensures { Listed points.now cells.now crossing.now numbers.new centroids.new }
 {
-    let many = cells.len() / 4;
     let mut k: usize = 0;
-    let mut i: usize = 0;
-    while i < many {
+    for i in 0..cells.len() / 4 {
         let last = is_last(crossing, work, n, i);
         k = list_at(points, cells, numbers, centroids, last, i, k);
-        i += 1;
     }
 }
 
@@ -95,16 +91,16 @@ fn list_in_room(
     centroids: &mut [u32],
     work: &[u32],
     n: usize,
-) -> Counted
+) -> Result<u64, CountError>
     requires { Found points.now cells.now crossing.now work.now n }
     ensures { Represents points.now cells.now crossing.now numbers.old centroids.old result numbers.new centroids.new }
 {
     let count = count_last(cells, crossing, work, n);
     if numbers.len() < count {
-        return Counted::Short(count as u64);
+        return Err(CountError::Short(count as u64));
     }
     if centroids.len() / 3 < count {
-        return Counted::Short(count as u64);
+        return Err(CountError::Short(count as u64));
     }
     let places = 3 * count;
     list_last(
@@ -116,7 +112,7 @@ fn list_in_room(
         work,
         n,
     );
-    Counted::Done(count as u64)
+    Ok(count as u64)
 }
 
 // The representatives, with a work table of one entry a point and a cell that holds anything and is left zero.
@@ -128,13 +124,13 @@ fn represent(
     centroids: &mut [u32],
     work: &mut [u32],
     n: usize,
-) -> Counted
+) -> Result<u64, CountError>
     requires { Laid points.now cells.now work.old n }
     ensures { (work.new ≡ replicate (length work.old) 0) × Represents points.now cells.now crossing.now numbers.old centroids.old result numbers.new centroids.new }
 {
     groups::settle(cells, crossing, work, n);
     let answer = list_in_room(points, cells, crossing, numbers, centroids, work, n);
-    lists::zero(work);
+    work.fill(0);
     answer
 }
 
@@ -148,13 +144,10 @@ pub fn representatives(
     numbers: &mut [u32],
     centroids: &mut [u32],
     work: &mut [u32],
-) -> Counted
+) -> Result<u64, CountError>
     ensures { RepresentativesDone points.now cells.now crossing.now numbers.old centroids.old work.old result numbers.new centroids.new work.new }
 {
-    let number = groups::judge(points.len(), cells, crossing, work.len(), 1, 1);
-    if number != 0 {
-        return Counted::Refused(number);
-    }
+    groups::judge(points.len(), cells, crossing, work.len(), 1, 1)?;
     let n = points.len() / 3;
     let need = n + cells.len() / 4;
     represent(

@@ -1,12 +1,9 @@
 use mathlib.Core.Path.{sym, ◌∙◌}
-use borrow.Author.Tests.{eqb-true, eqb-false}
-use Rattle.lists.proofs.Tests.{failed, passed}
+use borrow.Author.Tests.{eqb-true}
+use Rattle.lists.proofs.Tests.{passed}
 use Rattle.links.proofs.Linking.{joined_already}
-use Rattle.links.proofs.Vertexes.{apart_cell, four_asked, joined_cell}
+use Rattle.links.proofs.Vertexes.{four_asked, joined_cell}
 use Rattle.links.proofs.join_cell.Goals as goal
-
-pub returns-then-not-is_free : goal.returns-then-not-is_free
-returns-then-not-is_free c = apart_cell _ _ _ _ c.requires.forest (eqb-false _ _ (failed c.is_free.ensures c.if-not-is_free.true))
 
 pub is_joined-requires : goal.is_joined-requires
 is_joined-requires c = (four_asked c.requires c.cell_at-cell.ensures).points
@@ -17,6 +14,3 @@ returns-then-is_joined c =
 
 pub join_four-requires : goal.join_four-requires
 join_four-requires c = four_asked c.requires c.cell_at-cell.ensures
-
-pub returns : goal.returns
-returns c = joined_cell _ _ _ _ _ (eqb-true _ _ (passed c.is_free.ensures c.if-not-is_free.false)) c.cell_at-cell.ensures c.join_four.ensures

@@ -1,19 +1,11 @@
-use mathlib.Core.Path.{◌∙◌}
-use lib.ListN.{length-set}
 use Rattle.links.proofs.Linking.{join_low, join_high}
 use Rattle.links.proofs.join_roots.Goals as goal
-
-pub shape_of-parent-then-a-b : goal.shape_of-parent-then-a-b
-shape_of-parent-then-a-b c = simp length-set (c.root-b.auto.parent ∙ c.root-a.auto.parent)
 
 pub returns-then-a-b : goal.returns-then-a-b
 returns-then-a-b c =
     let r = c.root-a in
     let r2 = c.root-b in
     join_low _ r.new.parent r2.new.parent _ _ r.result r2.result r.ensures r2.ensures r2.auto.parent c.if-a-b.true
-
-pub shape_of-parent-else-a-b : goal.shape_of-parent-else-a-b
-shape_of-parent-else-a-b c = simp length-set (c.root-b.auto.parent ∙ c.root-a.auto.parent)
 
 pub returns-else-a-b : goal.returns-else-a-b
 returns-else-a-b c =

@@ -1,4 +1,3 @@
-use borrow.Author.Tests.{eqb-true}
 use Rattle.lists.proofs.Tests.{failed, passed}
 use Rattle.representatives.specs.Parts.{is_last}
 use Rattle.representatives.proofs.is_last.Goals as goal
@@ -6,9 +5,6 @@ use Rattle.representatives.proofs.is_last.Goals as goal
 pub returns-then-not-is_free : goal.returns-then-not-is_free
 unfolding is_last
 returns-then-not-is_free c = rw (failed c.is_free.ensures c.if-not-is_free.true)
-
-pub label_at-requires : goal.label_at-requires
-label_at-requires c = (c.requires.inside, c.requires.root (eqb-true _ _ (passed c.is_free.ensures c.if-not-is_free.false)))
 
 pub returns : goal.returns
 unfolding is_last

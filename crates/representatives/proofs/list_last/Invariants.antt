@@ -1,13 +1,9 @@
 use mathlib.Core.Path.{◌≡◌}
-use Prim.Native.Nat.{◌-◌, ◌/◌, ◌≤◌}
 use lib.ListN.{length}
 use Rattle.representatives.proofs.Listing.{Listing}
 use Rattle.representatives.proofs.list_last.Given as goal
 
 abbrev pub invariant-loop-i : goal.invariant-loop-i
 invariant-loop-i l =
-    (l.many ≡ length l.cells / 4) × (l.i ≤ l.many) × (length l.numbers ≡ length l.initial.numbers) × (length l.centroids ≡ length l.initial.centroids)
+    (length l.numbers ≡ length l.initial.numbers) × (length l.centroids ≡ length l.initial.centroids)
     × Listing l.points l.cells l.crossing l.work l.initial.numbers l.initial.centroids l.numbers l.centroids l.n l.i l.k
-
-abbrev pub decreases-loop-i : goal.decreases-loop-i
-decreases-loop-i l = length l.cells / 4 - l.i
