@@ -4,7 +4,6 @@ use mathlib.Core.Logic.{◌⊎◌, inl, inr, ◌≢◌}
 use mathlib.Core.Bool.{Bool, true, false, not, ◌||◌}
 use mathlib.Core.List.{List}
 use Prim.Native.Nat.{ℕ, ◌+◌, ◌≤◌, ◌<◌}
-use native.Mathlib.Nat.{not-suc-le-zero}
 use native.Mathlib.Omega.{arith}
 use borrow.Author.Tests.{ne_eqb}
 use lib.Dec.{eqb}
@@ -33,9 +32,6 @@ pub record Marking (mark : ℕ → Bool) (C w : List ℕ) (n i : ℕ) : Type 0 w
   pub sized : Sized C w n
   pub marks : (j : ℕ) → j < i → get_or (drop n w) j 0 ≡ bit (mark j)
 
-pub marking_start : (mark : ℕ → Bool) (C w : List ℕ) (n : ℕ) → Sized C w n → Marking mark C w n 0
-marking_start mark C w n s = record { sized = s; marks = λ j h. absurd (not-suc-le-zero h) }
-
 pub marking_step : (mark : ℕ → Bool) (C w : List ℕ) (n i v : ℕ) → Marking mark C w n i → i < cells_of C → v ≡ bit (mark i)
     → Marking mark C (set w (n + i) v) n (i + 1)
 marking_step mark C w n i v l h e = record {
@@ -63,9 +59,6 @@ module _ (C X Q w₀ : List ℕ) (n : ℕ) (a : CoverAsked C X Q w₀ n) where
     pub marking : Marking (cover_mark C X Q (cells_of C)) C w n i
     pub front : take n w ≡ take n w₀
     pub rest : (j : ℕ) → i ≤ j → get_or (drop n w) j 0 ≡ get_or (drop n w₀) j 0
-
-  pub behind_start : Behind w₀ 0
-  behind_start = record { marking = marking_start (cover_mark C X Q (cells_of C)) C w₀ n a.labelled.sized; front = refl; rest = λ j h. refl }
 
   module _ (w : List ℕ) (i : ℕ) (l : Behind w i) (h : i < cells_of C) where
     root_same : get_or w (n + i) 0 ≡ get_or w₀ (n + i) 0

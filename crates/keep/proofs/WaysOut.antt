@@ -26,7 +26,7 @@ use Rattle.mesh.specs.Mesh.{points_of, cells_of}
 use Rattle.mesh.specs.Judged.{count_rows, whole_rows, size_rows, name_rows}
 use Rattle.mesh.proofs.Unrefused.{Fitting, sizes_proper, sizes_fit, names_fit, named_fit}
 use Rattle.groups.specs.Judged.{crossed_rows}
-use Rattle.groups.specs.Parts.{Sized, Laid}
+use Rattle.groups.specs.Parts.{Sized}
 use Rattle.groups.proofs.Unrefused.{Answered, crossed_fits, sized_front}
 use Rattle.volume.specs.Volume.{least_of}
 use Rattle.marked.specs.Kept.{number_of, points_kept, cells_kept, kept_of, points_after, cells_after}
@@ -92,9 +92,6 @@ module _ (P C w : List ℕ) (f : Fitting (length P) C (length w) 1 2) where
         take-take (front_of P C) (need_of P C) lent (omega arith) ∙ take_at s (drop (front_of P C) w) (front_of P C) s_long
 
     module _ {mark : ℕ → Bool} (m : MarksOf mark C s (points_of P)) where
-      pub rest_laid : Laid P C (take (front_of P C) (take (need_of P C) lent)) (points_of P)
-      rest_laid = rw front_again (record { points = refl; sized = m.sized })
-
       pub rest_marked : {c : Float} {p q p' q' z : List ℕ} {r : Result Kept KeepError} → RestKept c P C p q (take (need_of P C) lent) r p' q' z
           → KeptMarked P C mark (least_of c) p q r p' q'
       rest_marked k = k.kept mark (rw front_again m)

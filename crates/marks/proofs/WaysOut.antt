@@ -1,5 +1,5 @@
 -- The outcomes of `marks`, one law for each way out. Assumes nothing.
-use mathlib.Core.Path.{◌≡◌, refl, sym, ap, ap₂, subst, ◌∙◌}
+use mathlib.Core.Path.{◌≡◌, refl, sym, ap, subst, ◌∙◌}
 use mathlib.Core.Bool.{Bool, true, false, cond}
 use mathlib.Core.List.{List, [], ◌∷◌, ◌++◌}
 use Prim.Native.Nat.{ℕ, ◌+◌, ◌≤◌, ◌<◌}
@@ -62,9 +62,6 @@ module _ (c : Float) (P C X Q o : List ℕ) where
         answer = ap Ok (a.answer ∙ ap (λ (M : List ℕ). as_told (cnt 1 M) (cnt 2 M)) t) ∙ sym s;
         marks = ap (λ (M : List ℕ). M ++ drop (cells_of C) o) (a.marks ∙ t) ∙ rw s (sym (as_new [] _ o));
       }
-
-pub all_marked : {M o : List ℕ} {kept dropped : ℕ} → o ≡ M → kept ≡ cnt 1 o → dropped ≡ cnt 2 o → AllMarked M (as_told kept dropped) o
-all_marked {M} {o} {kept} {dropped} e k d = record { answer = ap₂ as_told (k ∙ ap (cnt 1) e) (d ∙ ap (cnt 2) e); marks = e }
 
 -- ---- the step
 

@@ -1,7 +1,7 @@
 use mathlib.Core.Path.{sym}
 use Rattle.std.proofs.lemmas.Result.{err_from_is_err_and}
 use lib.Seq.{length-take-le}
-use Rattle.keep.proofs.WaysOut.{cover_fits, front_fits, front_sized, need_fits, rest_laid, rest_marked, work_zero, refused, kept, cover_low}
+use Rattle.keep.proofs.WaysOut.{cover_fits, front_fits, front_sized, need_fits, rest_marked, work_zero, refused, kept, cover_low}
 use Rattle.keep.proofs.keep_cover.Goals as goal
 
 pub returns-in_err-judge_cover : goal.returns-in_err-judge_cover
@@ -32,12 +32,6 @@ slice_bounds-keep_rest-end-2 c =
     let s = c.args in
     let f = (cover_fits _ _ _ _ _ _ _ (sym c.in_ok-judge_cover.ensures)).mesh in
     sym (length-take-le _ _ (need_fits s.points.now s.cells.now s.work.now f c.mark_inside.new.work c.mark_inside.auto.work))
-
-pub keep_rest-requires : goal.keep_rest-requires
-keep_rest-requires c =
-    let s = c.args in
-    let f = (cover_fits _ _ _ _ _ _ _ (sym c.in_ok-judge_cover.ensures)).mesh in
-    rest_laid s.points.now s.cells.now s.work.now f c.mark_inside.new.work c.mark_inside.auto.work c.mark_inside.ensures
 
 pub returns : goal.returns
 returns c =

@@ -1,7 +1,7 @@
 use mathlib.Core.Path.{sym}
 use Rattle.std.proofs.lemmas.Result.{err_from_is_err_and}
 use lib.Seq.{length-take-le}
-use Rattle.keep.proofs.WaysOut.{crust_fits, front_fits, front_sized, need_fits, rest_laid, rest_marked, work_zero, refused, kept, crust_low}
+use Rattle.keep.proofs.WaysOut.{crust_fits, front_fits, front_sized, need_fits, rest_marked, work_zero, refused, kept, crust_low}
 use Rattle.keep.proofs.keep_crust.Goals as goal
 
 pub returns-in_err-judge_crust : goal.returns-in_err-judge_crust
@@ -32,12 +32,6 @@ slice_bounds-keep_rest-end-2 c =
     let s = c.args in
     let f = (crust_fits _ _ _ _ _ (sym c.in_ok-judge_crust.ensures)).mesh in
     sym (length-take-le _ _ (need_fits s.points.now s.cells.now s.work.now f c.mark_crust.new.work c.mark_crust.auto.work))
-
-pub keep_rest-requires : goal.keep_rest-requires
-keep_rest-requires c =
-    let s = c.args in
-    let f = (crust_fits _ _ _ _ _ (sym c.in_ok-judge_crust.ensures)).mesh in
-    rest_laid s.points.now s.cells.now s.work.now f c.mark_crust.new.work c.mark_crust.auto.work c.mark_crust.ensures
 
 pub returns : goal.returns
 returns c =

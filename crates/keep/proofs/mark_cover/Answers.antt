@@ -1,8 +1,5 @@
-use Rattle.keep.proofs.Marking.{behind_start, behind_step, probe_asked, marking_done}
+use Rattle.keep.proofs.Marking.{behind_step, probe_asked, marking_done}
 use Rattle.keep.proofs.mark_cover.Goals as goal
-
-pub loop-i-init : goal.loop-i-init
-loop-i-init c = λ a. behind_start _ _ _ _ _ a
 
 pub cover_mark-mark-requires : goal.cover_mark-mark-requires
 cover_mark-mark-requires c = probe_asked _ _ _ _ _ c.requires _ _ (c.loop-i.invariant c.requires) c.loop-i-test.true

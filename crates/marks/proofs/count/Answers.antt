@@ -1,9 +1,6 @@
-use Rattle.marks.proofs.Counting.{count_start, count_one, count_none, count_done}
+use Rattle.marks.proofs.Counting.{count_one, count_none, count_done}
 use Rattle.marks.proofs.count.Goals as goal
 use Rattle.marks.proofs.count.Goals.{else-mark-kind, then-mark-kind}
-
-pub loop-mark-init : goal.loop-mark-init
-loop-mark-init c = count_start _ _
 
 pub loop-mark-preserved : goal.loop-mark-preserved
 loop-mark-preserved c =

@@ -1,7 +1,6 @@
-use mathlib.Core.Path.{refl, sym, ap, ◌∙◌}
+use mathlib.Core.Path.{ap, ◌∙◌}
 use Prim.Native.Nat.{ℕ}
 use lib.ListN.{replicate}
-use lib.Seq.{length-take-le}
 use Rattle.marks.proofs.WaysOut.{short, all_told}
 use Rattle.marks.proofs.tell.Goals as goal
 
@@ -9,12 +8,6 @@ pub returns-then-marks-many : goal.returns-then-marks-many
 returns-then-marks-many c =
     let s = c.args in
     (short s.c s.points.now s.cells.now s.crossing.now s.probe.now s.marks.now c.if-marks-many.true, c.fill.ensures.after (λ y e. e))
-
-pub slice_bounds-mark_cells-end-2 : goal.slice_bounds-mark_cells-end-2
-slice_bounds-mark_cells-end-2 c = sym (length-take-le _ _ c.if-marks-many.false)
-
-pub mark_cells-answer-requires : goal.mark_cells-answer-requires
-mark_cells-answer-requires c = record { laid = record { points = refl; sized = c.mark_inside.ensures.sized }; room = length-take-le _ _ c.if-marks-many.false }
 
 pub returns : goal.returns
 returns c =
