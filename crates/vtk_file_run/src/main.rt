@@ -1,26 +1,56 @@
 // Writes the viewer's file of a small mesh, reads it back, and reads what becomes of it when it is cut or changed. Prints how each is taken.
 #![tactic(auto)]
 
-use file_steps::Loaded;
-use refusals::Counted;
+use file_steps::LoadError;
+use refusals::Refusal;
 use std::io;
 
-fn print_text(rt: &impl Print, text: &str) -> io::Result<()> {
-    rt.print(text)
+// How a file is taken.
+#[derive(Clone, Copy)]
+enum Taken {
+    // it reads, as the sample's mesh
+    Same,
+    // it reads, as another mesh
+    Other,
+    // it reads, and what is written for its mesh differs behind the title: this must never be
+    Wrong,
+    Refused(Refusal),
 }
 
-fn print_number(rt: &impl Print, n: u64) -> io::Result<()> {
-    print!(rt; " {n}")
+// How often files are taken so, the refusals by their numbers.
+#[derive(Drop)]
+struct Tally {
+    same: u64,
+    other: u64,
+    wrong: u64,
+    refused: [u64; 18],
+}
+
+impl Tally {
+    fn new() -> Self {
+        Self {
+            same: 0,
+            other: 0,
+            wrong: 0,
+            refused: [0; 18],
+        }
+    }
+
+    fn add(&mut self, taken: Taken) {
+        let count = match taken {
+            Taken::Same => &mut self.same,
+            Taken::Other => &mut self.other,
+            Taken::Wrong => &mut self.wrong,
+            Taken::Refused(why) => &mut self.refused[why.number() as usize],
+        };
+        *count = count.wrapping_add(1);
+    }
 }
 
 // Writes the file of a mesh; answers its bytes, or 0 where it is refused.
 fn write(points: &[u32], cells: &[u32], file: &mut [u8]) -> u64 {
     let mut work = [7u32; 10];
-    match vtk_writer::write_vtk(points, cells, file, &mut work) {
-        Counted::Done(bytes) => bytes,
-        Counted::Refused(_) => 0,
-        Counted::Short(_) => 0,
-    }
+    vtk_writer::write_vtk(points, cells, file, &mut work).unwrap_or(0)
 }
 
 // Five points, among them a signalling NaN, an infinity and -0; two cells that hang together at point 3. The file has 287 bytes.
@@ -43,103 +73,72 @@ fn write_sample(rt: &impl Print, file: &mut [u8]) -> io::Result<()> {
         4,
     ];
     let cells: [u32; 8] = [0, 1, 2, 3, 3, 4, 1, 1];
-    print_text(rt, "written")?;
-    print_number(rt, write(&points, &cells, file))?;
-    print_text(rt, "\n")
+    println!(rt; "written {}", write(&points, &cells, file))
 }
 
-fn same(a: &[u8], b: &[u8]) -> bool {
-    if a.len() != b.len() {
-        return false;
+// A file that was read, and what is written for its mesh.
+fn kind(sample: &[u8], file: &[u8], again: &[u8]) -> Taken {
+    if file.len() < 277 || again.len() < 37 {
+        return Taken::Wrong;
     }
-    let mut i: usize = 0;
-    while i < a.len() {
-        if a[i] != b[i] {
-            return false;
-        }
-        i += 1;
+    if file[file.len() - 250..] != again[37..] {
+        return Taken::Wrong;
     }
-    true
+    if sample == again {
+        return Taken::Same;
+    }
+    Taken::Other
 }
 
-// A file that was read, and what is written for the mesh: 0 for the sample's mesh, 1 for another, and 2, which must never be, where the
-// bytes differ behind the title.
-fn kind(sample: &[u8], file: &[u8], again: &[u8]) -> u32 {
-    if file.len() < 277 {
-        return 2;
-    }
-    if again.len() < 37 {
-        return 2;
-    }
-    let start = file.len() - 250;
-    if !same(&file[start..], &again[37..]) {
-        return 2;
-    }
-    if same(sample, again) {
-        return 0;
-    }
-    1
-}
-
-// How a file is taken: 0, 1 or 2 where it reads, and else the number that it is refused with.
-fn outcome(sample: &[u8], file: &[u8]) -> u32 {
+// How a file is taken.
+fn outcome(sample: &[u8], file: &[u8]) -> Taken {
     let mut points = [7u32; 15];
     let mut cells = [7u32; 8];
     let mut work = [7u32; 10];
     match vtk_reader::read_vtk(file, &mut points, &mut cells, &mut work) {
-        Loaded::Done(_, _) => {
+        Ok(_) => {
             let mut again = [0u8; 287];
             write(&points, &cells, &mut again);
             kind(sample, file, &again)
         }
-        Loaded::Refused(number) => number,
-        Loaded::Short(_, _) => 9,
+        Err(LoadError::Refused(why)) => Taken::Refused(why),
+        Err(LoadError::Short(_, _)) => Taken::Refused(Refusal::NoRoom),
     }
 }
 
 // Puts bytes behind others, as far as there is room, and answers the place after them.
 fn put(file: &mut [u8], at: usize, bytes: &[u8]) -> usize {
-    if file.len() < at {
+    if file.len() < at || file.len() - at < bytes.len() {
         return at;
     }
-    if file.len() - at < bytes.len() {
-        return at;
-    }
-    let mut i: usize = 0;
-    while i < bytes.len() {
-        file[at + i] = bytes[i];
-        i += 1;
-    }
-    at + i
+    let end = at + bytes.len();
+    file[at..end].copy_from_slice(bytes);
+    end
 }
 
 // The outcome where some bytes of the sample at a place are others.
-fn respelled(sample: &[u8], at: usize, many: usize, bytes: &[u8]) -> u32 {
+fn respelled(sample: &[u8], at: usize, many: usize, bytes: &[u8]) -> Taken {
     let mut file = [0u8; 600];
-    if sample.len() < at {
-        return 2;
-    }
-    if sample.len() - at < many {
-        return 2;
+    if sample.len() < at || sample.len() - at < many {
+        return Taken::Wrong;
     }
     let rest = at + many;
     let first = put(&mut file, 0, &sample[..at]);
     let second = put(&mut file, first, bytes);
     let end = put(&mut file, second, &sample[rest..]);
     if 600 < end {
-        return 2;
+        return Taken::Wrong;
     }
     outcome(sample, &file[..end])
 }
 
-fn print_outcome(rt: &impl Print, number: u64) -> io::Result<()> {
-    if number == 0 {
-        return print_text(rt, " the mesh");
+fn print_taken(rt: &impl Print, taken: Taken) -> io::Result<()> {
+    match taken {
+        Taken::Same => print!(rt; " the mesh"),
+        Taken::Other => print!(rt; " another mesh"),
+        Taken::Wrong => print!(rt; " 2"),
+        Taken::Refused(why) => print!(rt; " {}", why.number()),
     }
-    if number == 1 {
-        return print_text(rt, " another mesh");
-    }
-    print_number(rt, number)
 }
 
 fn print_respelled(
@@ -150,40 +149,36 @@ fn print_respelled(
     many: usize,
     bytes: &[u8],
 ) -> io::Result<()> {
-    print_text(rt, title)?;
-    print_outcome(rt, respelled(sample, at, many, bytes) as u64)?;
-    print_text(rt, "\n")
-}
-
-fn tally(counts: &mut [u64; 16], number: u32) {
-    if number < 16 {
-        let i = number as usize;
-        counts[i] = counts[i].wrapping_add(1);
-    }
+    print!(rt; "{title}")?;
+    print_taken(rt, respelled(sample, at, many, bytes))?;
+    println!(rt)
 }
 
 // How often each outcome was.
-fn print_counts(rt: &impl Print, title: &str, counts: &[u64; 16]) -> io::Result<()> {
-    print_text(rt, title)?;
-    let mut i: usize = 0;
-    while i < 16 {
-        if counts[i] != 0 {
-            print_outcome(rt, i as u64)?;
-            print_text(rt, ":")?;
-            print_number(rt, counts[i])?;
-        }
-        i += 1;
+fn print_counts(rt: &impl Print, title: &str, counts: &Tally) -> io::Result<()> {
+    print!(rt; "{title}")?;
+    if counts.same != 0 {
+        print!(rt; " the mesh: {}", counts.same)?;
     }
-    print_text(rt, "\n")
+    if counts.other != 0 {
+        print!(rt; " another mesh: {}", counts.other)?;
+    }
+    if counts.wrong != 0 {
+        print!(rt; " 2: {}", counts.wrong)?;
+    }
+    for (number, count) in counts.refused.iter().enumerate() {
+        if *count != 0 {
+            print!(rt; " {number}: {}", *count)?;
+        }
+    }
+    println!(rt)
 }
 
 // Every part of the sample from the front, the whole left out.
 fn parts(rt: &impl Print, sample: &[u8]) -> io::Result<()> {
-    let mut counts = [0u64; 16];
-    let mut n: usize = 0;
-    while n < sample.len() {
-        tally(&mut counts, outcome(sample, &sample[..n]));
-        n += 1;
+    let mut counts = Tally::new();
+    for n in 0..sample.len() {
+        counts.add(outcome(sample, &sample[..n]));
     }
     print_counts(rt, "each part from the front:", &counts)
 }
@@ -196,28 +191,18 @@ fn respellings(
     many: usize,
     bytes: &[u8],
 ) -> io::Result<()> {
-    let mut counts = [0u64; 16];
-    let mut at: usize = 0;
-    while at < sample.len() {
-        tally(&mut counts, respelled(sample, at, many, bytes));
-        at += 1;
+    let mut counts = Tally::new();
+    for at in 0..sample.len() {
+        counts.add(respelled(sample, at, many, bytes));
     }
     print_counts(rt, title, &counts)
 }
 
-// A byte that many further on.
-fn shifted(x: u8, by: u8) -> u8 {
-    ((lists::word8(x) + lists::word8(by)) % 256) as u8
-}
-
-// At every place another byte.
+// At every place another byte: that many further on.
 fn changes(rt: &impl Print, title: &str, sample: &[u8], by: u8) -> io::Result<()> {
-    let mut counts = [0u64; 16];
-    let mut at: usize = 0;
-    while at < sample.len() {
-        let byte = [shifted(sample[at], by); 1];
-        tally(&mut counts, respelled(sample, at, 1, &byte));
-        at += 1;
+    let mut counts = Tally::new();
+    for (at, x) in sample.iter().enumerate() {
+        counts.add(respelled(sample, at, 1, &[x.wrapping_add(by)]));
     }
     print_counts(rt, title, &counts)
 }
@@ -270,9 +255,9 @@ fn counts(rt: &impl Print, sample: &[u8]) -> io::Result<()> {
 }
 
 fn read_all(rt: &impl Print, sample: &[u8]) -> io::Result<()> {
-    print_text(rt, "read:")?;
-    print_outcome(rt, outcome(sample, sample) as u64)?;
-    print_text(rt, "\n")?;
+    print!(rt; "read:")?;
+    print_taken(rt, outcome(sample, sample))?;
+    println!(rt)?;
     titles(rt, sample)?;
     counts(rt, sample)?;
     print_respelled(rt, "a byte behind the end:", sample, 287, 0, b"\n")?;
