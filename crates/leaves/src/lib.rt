@@ -8,7 +8,7 @@ ghost use Rattle.vertex_keys.specs.Keys.{Packs};
 ghost use Rattle.sides.specs.Parts.{Taken, LeafIn, cells_at, cells_in};
 ghost use Rattle.leaves.specs.Parts.{packed, level_in, place_in, leaves_in, leaves_below, cells_below, leaves_of, cells_of, Left, Walked, Counted, nothing};
 
-use octree::{Octant, Roots, is_split};
+use octree::{Octant, Octree, Roots, is_split};
 use sides::count_leaf;
 use vertex_keys::KEYS;
 
@@ -42,6 +42,7 @@ pub fn unpack(leaf: u64) -> Octant
 }
 
 // Meets a leaf: stores it where there is room; where there is none its cells are counted.
+// The table and its roots come apart here and below: of a struct each clause would name both parts.
 fn note_leaf(split: &[u8], d: Roots, o: Octant, out: &mut [u64], tally: Tally) -> Tally
     requires taken { Taken split.now d × LeafIn split.now d o }
     requires leaves_bound { tally.leaves + 1 < 2 ^ 64 }
@@ -71,7 +72,8 @@ fn walk_octant(split: &[u8], d: Roots, o: Octant, out: &mut [u64], tally: Tally)
     requires left { Left split.now d o (leaves_below split.now d o) (cells_below split.now d o) tally }
     ensures { Walked out.old tally (leaves_below split.now d o) (cells_below split.now d o) result out.new }
 {
-    if is_split(split, d, o) {
+    let octree = Octree { split, roots: d };
+    if is_split(&octree, o) {
         walk_children(split, d, o, 8, out, tally)
     } else {
         note_leaf(split, d, o, out, tally)

@@ -5,11 +5,11 @@ ghost use Rattle.std.specs.Prelude.{◌≡◌, ◌+◌, ◌*◌, ◌/◌, ◌≤
 ghost use Rattle.space.specs.Space.{pos};
 ghost use Rattle.space.specs.Levels.{most_levels};
 ghost use Rattle.octants.specs.Oct.{In, width as width_of};
-ghost use Rattle.octree.specs.Parts.{roots_of, place_of, tree_of, Covers};
+ghost use Rattle.octree.specs.Parts.{roots_of, place_of, tree_of};
 ghost use Rattle.octree_cells.specs.Cells.{at_most, is_leaf, leaf_at, leaf_around, on_grid, finer};
 ghost use Rattle.lookup.specs.Parts.{ancestor_of, descent_of, covered_of};
 
-use octree::{Octant, Roots, is_inside, is_split, level_at};
+use octree::{Octant, Octree, is_inside, is_split, level_at};
 
 // The leaf that covers an octant; split, so that several leaves cover it; or out of range.
 #[derive(Clone, Copy)]
@@ -58,38 +58,38 @@ fn ancestor(o: Octant, k: usize) -> Octant
 }
 
 // From k levels above an octant down to it: the first ancestor that is a leaf.
-fn descend(s: &[u8], d: Roots, o: Octant, k: usize) -> Covered
-    requires { Covers d (length s.now) × (o.level + k ≤ d.levels) × In d.levels (roots_of d) o.level (place_of o) }
-    ensures { result ≡ descent_of (tree_of d s.now) o k }
+fn descend(t: &Octree, o: Octant, k: usize) -> Covered
+    requires { (o.level + k ≤ t.now.roots.levels) × In t.now.roots.levels (roots_of t.now.roots) o.level (place_of o) }
+    ensures { let d = t.now.roots in result ≡ descent_of (tree_of d t.now.split.now) o k }
 {
     let a = ancestor(o, k);
-    if !is_split(s, d, a) {
+    if !is_split(t, a) {
         return Covered::Leaf(a);
     }
     if k == 0 {
         return Covered::Split;
     }
-    descend(s, d, o, k - 1)
+    descend(t, o, k - 1)
 }
 
 // The leaf that covers an octant, by descent from its root.
-pub fn covering_leaf(s: &[u8], d: Roots, o: Octant) -> Covered
-    requires { Covers d (length s.now) × (o.level ≤ d.levels) }
-    ensures { result ≡ covered_of d.levels (roots_of d) (tree_of d s.now) o }
+pub fn covering_leaf(t: &Octree, o: Octant) -> Covered
+    requires { o.level ≤ t.now.roots.levels }
+    ensures { let d = t.now.roots in result ≡ covered_of d.levels (roots_of d) (tree_of d t.now.split.now) o }
 {
-    let k = d.levels - o.level;
-    if !is_inside(level_at(d, k), o.x, o.y, o.z) {
+    let k = t.roots.levels - o.level;
+    if !is_inside(level_at(t.roots, k), o.x, o.y, o.z) {
         return Covered::Outside;
     }
-    descend(s, d, o, k)
+    descend(t, o, k)
 }
 
 // Whether an octant is a leaf.
-pub fn is_leaf(s: &[u8], d: Roots, o: Octant) -> bool
-    requires { Covers d (length s.now) × (o.level ≤ d.levels) }
-    ensures { result ≡ is_leaf d.levels (roots_of d) (tree_of d s.now) o.level (place_of o) }
+pub fn is_leaf(t: &Octree, o: Octant) -> bool
+    requires { o.level ≤ t.now.roots.levels }
+    ensures { let d = t.now.roots in result ≡ is_leaf d.levels (roots_of d) (tree_of d t.now.split.now) o.level (place_of o) }
 {
-    match covering_leaf(s, d, o) {
+    match covering_leaf(t, o) {
         Covered::Leaf(a) => a.level == o.level,
         Covered::Split => false,
         Covered::Outside => false,
@@ -104,9 +104,9 @@ fn has_corner(o: Octant, i: usize, j: usize, k: usize) -> bool
 }
 
 // Whether the octant whose corner (i, j, k) stands at the level's place o is a leaf.
-fn leaf_at(s: &[u8], d: Roots, o: Octant, i: usize, j: usize, k: usize) -> bool
-    requires { Covers d (length s.now) × (o.level ≤ d.levels) }
-    ensures { result ≡ leaf_at d.levels (roots_of d) (tree_of d s.now) o.level (place_of o) (pos i j k) }
+fn leaf_at(t: &Octree, o: Octant, i: usize, j: usize, k: usize) -> bool
+    requires { o.level ≤ t.now.roots.levels }
+    ensures { let d = t.now.roots in result ≡ leaf_at d.levels (roots_of d) (tree_of d t.now.split.now) o.level (place_of o) (pos i j k) }
 {
     if !has_corner(o, i, j, k) {
         return false;
@@ -117,16 +117,16 @@ fn leaf_at(s: &[u8], d: Roots, o: Octant, i: usize, j: usize, k: usize) -> bool
         y: o.y - j,
         z: o.z - k,
     };
-    is_leaf(s, d, a)
+    is_leaf(t, a)
 }
 
 // Whether one of the eight octants around the level's place o is a leaf.
-fn leaf_around(s: &[u8], d: Roots, o: Octant) -> bool
-    requires { Covers d (length s.now) × (o.level ≤ d.levels) }
-    ensures { result ≡ leaf_around d.levels (roots_of d) (tree_of d s.now) o.level (place_of o) }
+fn leaf_around(t: &Octree, o: Octant) -> bool
+    requires { o.level ≤ t.now.roots.levels }
+    ensures { let d = t.now.roots in result ≡ leaf_around d.levels (roots_of d) (tree_of d t.now.split.now) o.level (place_of o) }
 {
     for n in 0..8 {
-        if leaf_at(s, d, o, n % 2, n / 2 % 2, n / 4) {
+        if leaf_at(t, o, n % 2, n / 2 % 2, n / 4) {
             return true;
         }
     }
@@ -142,9 +142,9 @@ fn on_grid(w: usize, x: usize, y: usize, z: usize) -> bool
 }
 
 // Whether a leaf of the level below m puts a vertex at (x, y, z), in vertex coordinates.
-pub fn has_finer_vertex(s: &[u8], d: Roots, m: usize, x: usize, y: usize, z: usize) -> bool
-    requires { Covers d (length s.now) × (m ≤ d.levels) }
-    ensures { result ≡ finer d.levels (roots_of d) (tree_of d s.now) m (pos x y z) }
+pub fn has_finer_vertex(t: &Octree, m: usize, x: usize, y: usize, z: usize) -> bool
+    requires { m ≤ t.now.roots.levels }
+    ensures { let d = t.now.roots in result ≡ finer d.levels (roots_of d) (tree_of d t.now.split.now) m (pos x y z) }
 {
     if m == 0 {
         return false;
@@ -159,5 +159,5 @@ pub fn has_finer_vertex(s: &[u8], d: Roots, m: usize, x: usize, y: usize, z: usi
         y: y / w,
         z: z / w,
     };
-    leaf_around(s, d, o)
+    leaf_around(t, o)
 }

@@ -9,7 +9,7 @@ ghost use Rattle.space.specs.Levels.{most_roots};
 ghost use Rattle.octree.specs.Parts.{Covers};
 
 use lookup::{Covered, covering_leaf, has_finer_vertex};
-use octree::{Octant, Roots, level_at};
+use octree::{Octant, Octree, Roots, level_at};
 use std::io;
 use tape::{BYTES, Inputs, Part, Section};
 
@@ -88,10 +88,11 @@ fn agrees(tape: &[u32], at: usize, finer: bool, s: &[u8], d: Roots) -> bool {
     if d.levels < o.level {
         return false;
     }
+    let octree = Octree { split: s, roots: d };
     if finer {
-        return has_finer_vertex(s, d, o.level, o.x, o.y, o.z) as u64 == answer;
+        return has_finer_vertex(&octree, o.level, o.x, o.y, o.z) as u64 == answer;
     }
-    told(covering_leaf(s, d, o)) == answer
+    told(covering_leaf(&octree, o)) == answer
 }
 
 // How many questions there were, and how many are answered otherwise.

@@ -7,6 +7,10 @@ ghost use Rattle.octants.specs.Oct.{counts, within, hit};
 ghost use Rattle.space.specs.Levels.{most_levels, most_roots, most_along, Counts, size};
 ghost use Rattle.octree.specs.Parts.{roots_of, place_of, counts_of, tree_of, Covers, level_at, below_of, Held, in_level};
 
+pub use table::Octree;
+
+mod table;
+
 // The roots along the axes, and how many levels stand below them.
 #[derive(Clone, Copy)]
 pub struct Roots {
@@ -97,12 +101,13 @@ pub fn below(v: Level) -> Level
 }
 
 // Whether an octant is there and split.
-pub fn is_split(s: &[u8], d: Roots, o: Octant) -> bool
-    requires { Covers d (length s.now) × (o.level ≤ d.levels) }
-    ensures { result ≡ hit (counts d.levels (roots_of d) o.level) (tree_of d s.now o.level) (place_of o) }
+pub fn is_split(t: &Octree, o: Octant) -> bool
+    requires { o.level ≤ t.now.roots.levels }
+    ensures { let d = t.now.roots in result ≡ hit (counts d.levels (roots_of d) o.level) (tree_of d t.now.split.now o.level) (place_of o) }
 {
     if o.level == 0 {
         return false;
     }
-    hits(s, level_at(d, d.levels - o.level), o.x, o.y, o.z)
+    let d = t.roots;
+    hits(t.split, level_at(d, d.levels - o.level), o.x, o.y, o.z)
 }

@@ -21,14 +21,14 @@ inside l d o f e = e ∙ ap (λ (n : Pos). within n (place_of o)) (level_counts 
 pub returns-then-not-is_inside : goal.returns-then-not-is_inside
 returns-then-not-is_inside c =
     let a = c.args in
-    covered_outside a.d.levels (roots_of a.d) (tree_of a.d a.s.now) a.o (failed (inside a.d.levels (roots_of a.d) a.o c.level_at.ensures c.is_inside.ensures) c.if-not-is_inside.true)
+    covered_outside a.t.now.roots.levels (roots_of a.t.now.roots) (tree_of a.t.now.roots a.t.now.split.now) a.o (failed (inside a.t.now.roots.levels (roots_of a.t.now.roots) a.o c.level_at.ensures c.is_inside.ensures) c.if-not-is_inside.true)
 
 pub descend-requires : goal.descend-requires
 descend-requires c =
     let a = c.args in
-    (c.requires.0, omega (arith, c.requires.1), within_in (counts a.d.levels (roots_of a.d) a.o.level) (place_of a.o) (passed (inside a.d.levels (roots_of a.d) a.o c.level_at.ensures c.is_inside.ensures) c.if-not-is_inside.false))
+    (omega (arith, c.requires), within_in (counts a.t.now.roots.levels (roots_of a.t.now.roots) a.o.level) (place_of a.o) (passed (inside a.t.now.roots.levels (roots_of a.t.now.roots) a.o c.level_at.ensures c.is_inside.ensures) c.if-not-is_inside.false))
 
 pub returns : goal.returns
 returns c =
     let a = c.args in
-    c.descend.ensures ∙ covered_inside a.d.levels (roots_of a.d) (tree_of a.d a.s.now) a.o (passed (inside a.d.levels (roots_of a.d) a.o c.level_at.ensures c.is_inside.ensures) c.if-not-is_inside.false)
+    c.descend.ensures ∙ covered_inside a.t.now.roots.levels (roots_of a.t.now.roots) (tree_of a.t.now.roots a.t.now.split.now) a.o (passed (inside a.t.now.roots.levels (roots_of a.t.now.roots) a.o c.level_at.ensures c.is_inside.ensures) c.if-not-is_inside.false)

@@ -25,10 +25,10 @@ unfolding any
 loop-n-init c = refl
 
 pub returns-then-leaf_at : goal.returns-then-leaf_at
-returns-then-leaf_at c = any_found (corners c.args.s.now c.args.d c.args.o) 8 c.loop-n.n (omega (arith, c.loop-n-test.true)) (sym c.leaf_at.ensures ∙ c.if-leaf_at.true) ∙ eight (leaf c.args.s.now c.args.d c.args.o)
+returns-then-leaf_at c = any_found (corners c.args.t.now.split.now c.args.t.now.roots c.args.o) 8 c.loop-n.n (omega (arith, c.loop-n-test.true)) (sym c.leaf_at.ensures ∙ c.if-leaf_at.true) ∙ eight (leaf c.args.t.now.split.now c.args.t.now.roots c.args.o)
 
 pub loop-n-preserved : goal.loop-n-preserved
-loop-n-preserved c = any_more (corners c.args.s.now c.args.d c.args.o) _ c.loop-n.invariant (sym c.leaf_at.ensures ∙ c.if-leaf_at.false)
+loop-n-preserved c = any_more (corners c.args.t.now.split.now c.args.t.now.roots c.args.o) _ c.loop-n.invariant (sym c.leaf_at.ensures ∙ c.if-leaf_at.false)
 
 pub returns : goal.returns
-returns c = any_none (corners c.args.s.now c.args.d c.args.o) 8 _ c.loop-n.auto.n-end c.loop-n-test.false c.loop-n.invariant ∙ eight (leaf c.args.s.now c.args.d c.args.o)
+returns c = any_none (corners c.args.t.now.split.now c.args.t.now.roots c.args.o) 8 _ c.loop-n.auto.n-end c.loop-n-test.false c.loop-n.invariant ∙ eight (leaf c.args.t.now.split.now c.args.t.now.roots c.args.o)

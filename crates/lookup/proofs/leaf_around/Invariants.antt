@@ -8,4 +8,4 @@ use Rattle.octree_cells.specs.Cells.{leaf_at}
 use Rattle.lookup.proofs.leaf_around.Given as goal
 
 abbrev pub invariant-loop-n : goal.invariant-loop-n
-invariant-loop-n l = any l.n (λ n. leaf_at l.d.levels (roots_of l.d) (tree_of l.d l.s) l.o.level (place_of l.o) (pos (n % 2) (n / 2 % 2) (n / 4))) ≡ false
+invariant-loop-n l = any l.n (λ n. leaf_at l.t.roots.levels (roots_of l.t.roots) (tree_of l.t.roots l.t.split.now) l.o.level (place_of l.o) (pos (n % 2) (n / 2 % 2) (n / 4))) ≡ false

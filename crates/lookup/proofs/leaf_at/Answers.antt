@@ -8,4 +8,4 @@ pub returns : goal.returns
 returns c =
     let a = c.args in
     c.is_leaf.ensures
-    ∙ corner_in a.d.levels (roots_of a.d) (tree_of a.d a.s.now) a.o.level a.o.x a.o.y a.o.z a.i a.j a.k (passed c.has_corner.ensures c.if-not-has_corner.false)
+    ∙ corner_in a.t.now.roots.levels (roots_of a.t.now.roots) (tree_of a.t.now.roots a.t.now.split.now) a.o.level a.o.x a.o.y a.o.z a.i a.j a.k (passed c.has_corner.ensures c.if-not-has_corner.false)
