@@ -1,6 +1,7 @@
 -- Two outcomes that the contract of a C function allows are equal: one law, from the step's own. Assumes nothing.
 use mathlib.Core.Path.{◌≡◌, sym, subst, ◌∙◌}
 use mathlib.Core.List.{List}
+use Rattle.std.specs.Prelude.{Result}
 use Prim.Native.Nat.{ℕ}
 use lib.Ieee.{Float}
 use Rattle.lists.specs.Tables.{Determined}
@@ -30,7 +31,7 @@ use Rattle.vtk_reader.specs.Step.{ReadDone as VtkReadDone}
 use Rattle.marks.specs.Step.{MarksDone}
 use Rattle.marks.proofs.Theorems.{marks_one}
 use Rattle.coverage.specs.declared.Totals.{Totals}
-use Rattle.coverage.specs.declared.Covered.{Covered}
+use Rattle.coverage.specs.declared.Uncovered.{Uncovered}
 use Rattle.coverage.specs.Step.{CoverageDone}
 use Rattle.coverage.proofs.Theorems.{coverage_one}
 use Rattle.sporeferry.specs.Calls.{Called, Tells, TellsPlan, TellsTotals, planned, refined, gridded, counted, piece, kept, told, covered, loaded}
@@ -105,10 +106,10 @@ tells_totals_one n t r s p q i = record { number = (p.number ∙ sym q.number) i
 
 -- ---- each C function
 
-pub sf_add_coverage_one : (t : Totals) (T C M : List ℕ) → Determined (Called covered (λ (a : Covered). CoverageDone t T C M a))
+pub sf_add_coverage_one : (t : Totals) (T C M : List ℕ) → Determined (Called covered (λ (a : Result Totals Uncovered). CoverageDone t T C M a))
 sf_add_coverage_one t T C M r s p q =
     let e : p.outcome ≡ q.outcome = coverage_one t T C M _ _ p.step q.step in
-    tells_totals_one _ _ r s (subst (λ (a : Covered). covered a r) e p.answer) q.answer
+    tells_totals_one _ _ r s (subst (λ (a : Result Totals Uncovered). covered a r) e p.answer) q.answer
 
 module _ (b : Bounds) (c : Float) (levels : ℕ) where
   pub sf_plan_one : Determined (Called planned (λ (a : Planned). a ≡ plan_of b c levels))

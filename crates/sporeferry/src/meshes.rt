@@ -7,7 +7,6 @@ ghost use Rattle.marks.specs.Step.{MarksDone};
 ghost use Rattle.coverage.specs.Step.{CoverageDone};
 ghost use Rattle.sporeferry.specs.Calls.{Called, counted, piece, kept, told, covered};
 
-use crate::outcomes;
 use crate::outcomes::{Answer, CoveredAnswer};
 use coverage::Totals;
 
@@ -21,7 +20,7 @@ pub fn sf_representatives(
 ) -> Answer
     ensures { Called counted (λ a. RepresentativesDone points.now cells.now crossing.now numbers.old centroids.old work.old a numbers.new centroids.new work.new) result }
 {
-    outcomes::of_counted(representatives::representatives(
+    Answer::from(representatives::representatives(
         points, cells, crossing, numbers, centroids, work,
     ))
 }
@@ -38,7 +37,7 @@ pub fn sf_keep_cover(
 ) -> Answer
     ensures { Called kept (λ a. KeepDone (cover_of c points.now cells.now crossing.now probe.now kept_points.old kept_cells.old work.old) points.now cells.now (cover_cells c points.now cells.now crossing.now probe.now) kept_points.old kept_cells.old work.old a kept_points.new kept_cells.new work.new) result }
 {
-    outcomes::of_kept(keep::keep_cover(
+    Answer::from(keep::keep_cover(
         c,
         points,
         cells,
@@ -61,13 +60,13 @@ pub fn sf_keep_crust(
 ) -> Answer
     ensures { Called kept (λ a. KeepDone (crust_of c points.now cells.now crossing.now kept_points.old kept_cells.old work.old) points.now cells.now (crust_cells c points.now cells.now crossing.now) kept_points.old kept_cells.old work.old a kept_points.new kept_cells.new work.new) result }
 {
-    outcomes::of_kept(keep::keep_crust(c, points, cells, crossing, kept_points, kept_cells, work))
+    Answer::from(keep::keep_crust(c, points, cells, crossing, kept_points, kept_cells, work))
 }
 
 pub fn sf_components(points: &[u32], cells: &[u32], numbers: &mut [u32], work: &mut [u32]) -> Answer
     ensures { Called counted (λ a. ComponentsDone points.now cells.now numbers.old work.old a numbers.new work.new) result }
 {
-    outcomes::of_counted(components::components(points, cells, numbers, work))
+    Answer::from(components::components(points, cells, numbers, work))
 }
 
 pub fn sf_face_components(
@@ -78,13 +77,13 @@ pub fn sf_face_components(
 ) -> Answer
     ensures { Called counted (λ a. FaceComponentsDone points.now cells.now numbers.old work.old a numbers.new work.new) result }
 {
-    outcomes::of_counted(pieces::face_components(points, cells, numbers, work))
+    Answer::from(pieces::face_components(points, cells, numbers, work))
 }
 
 pub fn sf_one_piece(points: &[u32], cells: &[u32], work: &mut [u32]) -> Answer
     ensures { Called piece (λ a. OnePieceDone points.now cells.now work.old a work.new) result }
 {
-    outcomes::of_one_piece(pieces::one_piece(points, cells, work))
+    Answer::from(pieces::one_piece(points, cells, work))
 }
 
 pub fn sf_marks(
@@ -98,7 +97,7 @@ pub fn sf_marks(
 ) -> Answer
     ensures { Called told (λ a. MarksDone c points.now cells.now crossing.now probe.now marks.old work.old a marks.new work.new) result }
 {
-    outcomes::of_told(marks::marks(c, points, cells, crossing, probe, marks, work))
+    Answer::from(marks::marks(c, points, cells, crossing, probe, marks, work))
 }
 
 pub fn sf_add_coverage(
@@ -109,5 +108,5 @@ pub fn sf_add_coverage(
 ) -> CoveredAnswer
     ensures { Called covered (λ a. CoverageDone totals triples.now cells.now marks.now a) result }
 {
-    outcomes::of_covered(coverage::add_coverage(totals, triples, cells, marks))
+    CoveredAnswer::from(coverage::add_coverage(totals, triples, cells, marks))
 }

@@ -1,18 +1,18 @@
 // A step's outcome as C sees it: a number and values.
 ghost use Rattle.std.specs.Prelude.{[], ◌∷◌};
+ghost use Rattle.refusals.specs.Refusals.{error_number, error_values};
 ghost use Rattle.plan.specs.Step.{refusal_number, refusal_values, no_plan};
 ghost use Rattle.plan.specs.declared.Planned.TheVariants.{Refused};
 ghost use Rattle.sporeferry.specs.Calls.{Tells, TellsPlan, planned, refined, gridded, counted, piece, kept, told, covered, loaded};
 
-use coverage::{Covered, Totals};
-use file_steps::Loaded;
-use grid::Gridded;
-use marked::Kept;
+use coverage::{Totals, Uncovered};
+use file_steps::{LoadError, Loaded};
+use grid::{GridError, Gridded};
+use marked::{KeepError, Kept};
 use marks::Told;
-use pieces::OnePiece;
 use plan::{Plan, Planned, Refusal};
-use refine::Refined;
-use refusals::Counted;
+use refine::RefineError;
+use refusals::CountError;
 
 #[repr(C)]
 #[derive(Clone, Copy)]
@@ -84,16 +84,18 @@ fn unplanned(why: Refusal) -> PlanAnswer
 {
     match why {
         Refusal::Number(number) => no_plan(number, 0),
-        Refusal::TooLarge(fault) => no_plan(4, fault),
+        Refusal::TooLarge(fault) => no_plan(4, fault.number()),
     }
 }
 
-pub fn of_plan(a: Planned) -> PlanAnswer
-    ensures { planned a result }
-{
-    match a {
-        Planned::Ready(p) => of_ready(p),
-        Planned::Refused(why) => unplanned(why),
+impl From<Planned> for PlanAnswer {
+    ghost from_gives = { planned };
+
+    fn from(a: Planned) -> PlanAnswer {
+        match a {
+            Planned::Ready(p) => of_ready(p),
+            Planned::Refused(why) => unplanned(why),
+        }
     }
 }
 
@@ -101,10 +103,17 @@ pub fn of_plan(a: Planned) -> PlanAnswer
 fn counts(number: u32, first: u64) -> Answer
     ensures { Tells number (first ∷ []) result }
 {
+    pair(number, first, 0)
+}
+
+// A number with two values.
+fn pair(number: u32, first: u64, second: u64) -> Answer
+    ensures { Tells number (first ∷ second ∷ []) result }
+{
     Answer {
         number,
         first,
-        second: 0,
+        second,
         third: 0,
     }
 }
@@ -114,126 +123,116 @@ fn of_refusal(why: Refusal) -> Answer
 {
     match why {
         Refusal::Number(number) => counts(number, 0),
-        Refusal::TooLarge(fault) => counts(4, fault as u64),
+        Refusal::TooLarge(fault) => counts(4, fault.number() as u64),
     }
 }
 
-pub fn of_refine(a: Refined) -> Answer
-    ensures { refined a result }
+fn of_error(why: CountError) -> Answer
+    ensures { Tells (error_number why) (error_values why) result }
 {
-    match a {
-        Refined::Done(ones) => counts(0, ones),
-        Refined::Refused(why) => of_refusal(why),
-        Refined::Short(octants) => counts(9, octants),
+    match why {
+        CountError::Refused(why) => counts(why.number(), 0),
+        CountError::Short(count) => counts(9, count),
     }
 }
 
-pub fn of_grid(a: Gridded) -> Answer
-    ensures { gridded a result }
-{
-    match a {
-        Gridded::Done(cells, vertices) => Answer {
-            number: 0,
-            first: cells,
-            second: vertices,
-            third: 0,
-        },
-        Gridded::Refused(why) => of_refusal(why),
-        Gridded::NoCells(cells) => counts(9, cells),
-        Gridded::NoVertices(cells, vertices) => Answer {
-            number: 9,
-            first: cells,
-            second: vertices,
-            third: 0,
-        },
-    }
-}
+impl From<Result<u64, RefineError>> for Answer {
+    ghost from_gives = { refined };
 
-pub fn of_counted(a: Counted) -> Answer
-    ensures { counted a result }
-{
-    match a {
-        Counted::Done(count) => counts(0, count),
-        Counted::Refused(number) => counts(number, 0),
-        Counted::Short(count) => counts(9, count),
-    }
-}
-
-pub fn of_one_piece(a: OnePiece) -> Answer
-    ensures { piece a result }
-{
-    match a {
-        OnePiece::Told(whole) => {
-            if whole {
-                return counts(0, 1);
-            }
-            counts(0, 0)
+    fn from(a: Result<u64, RefineError>) -> Answer {
+        match a {
+            Ok(ones) => counts(0, ones),
+            Err(RefineError::Refused(why)) => of_refusal(why),
+            Err(RefineError::Short(octants)) => counts(9, octants),
         }
-        OnePiece::Refused(number) => counts(number, 0),
     }
 }
 
-pub fn of_kept(a: Kept) -> Answer
-    ensures { kept a result }
-{
-    match a {
-        Kept::Done(points, cells, dropped) => Answer {
-            number: 0,
-            first: points,
-            second: cells,
-            third: dropped,
-        },
-        Kept::Refused(number) => counts(number, 0),
-        Kept::Short(points, cells) => Answer {
-            number: 9,
-            first: points,
-            second: cells,
-            third: 0,
-        },
-        Kept::Nothing => counts(10, 0),
+impl From<Result<Gridded, GridError>> for Answer {
+    ghost from_gives = { gridded };
+
+    fn from(a: Result<Gridded, GridError>) -> Answer {
+        match a {
+            Ok(grid) => pair(0, grid.cells, grid.vertices),
+            Err(GridError::Refused(why)) => of_refusal(why),
+            Err(GridError::NoCells(cells)) => counts(9, cells),
+            Err(GridError::NoVertices(cells, vertices)) => pair(9, cells, vertices),
+        }
     }
 }
 
-pub fn of_loaded(a: Loaded) -> Answer
-    ensures { loaded a result }
-{
-    match a {
-        Loaded::Done(points, cells) => Answer {
-            number: 0,
-            first: points,
-            second: cells,
-            third: 0,
-        },
-        Loaded::Refused(number) => counts(number, 0),
-        Loaded::Short(points, cells) => Answer {
-            number: 9,
-            first: points,
-            second: cells,
-            third: 0,
-        },
+impl From<Result<u64, CountError>> for Answer {
+    ghost from_gives = { counted };
+
+    fn from(a: Result<u64, CountError>) -> Answer {
+        match a {
+            Ok(count) => counts(0, count),
+            Err(why) => of_error(why),
+        }
     }
 }
 
-pub fn of_told(a: Told) -> Answer
-    ensures { told a result }
-{
-    match a {
-        Told::Done(kept, dropped) => Answer {
-            number: 0,
-            first: kept,
-            second: dropped,
-            third: 0,
-        },
-        Told::Refused(number) => counts(number, 0),
-        Told::Short(cells) => counts(9, cells),
+impl From<Result<bool, refusals::Refusal>> for Answer {
+    ghost from_gives = { piece };
+
+    fn from(a: Result<bool, refusals::Refusal>) -> Answer {
+        match a {
+            Ok(whole) => counts(0, u64::from(whole)),
+            Err(why) => counts(why.number(), 0),
+        }
     }
 }
 
-pub fn of_covered(a: Covered) -> CoveredAnswer
-    ensures { covered a result }
-{
-    match a {
-        Covered::Added(totals) => CoveredAnswer { number: 0, totals },
-        Covered::Refused(number, totals) => CoveredAnswer { number, totals },
+impl From<Result<Kept, KeepError>> for Answer {
+    ghost from_gives = { kept };
+
+    fn from(a: Result<Kept, KeepError>) -> Answer {
+        match a {
+            Ok(mesh) => Answer {
+                number: 0,
+                first: mesh.points,
+                second: mesh.cells,
+                third: mesh.dropped,
+            },
+            Err(KeepError::Refused(why)) => counts(why.number(), 0),
+            Err(KeepError::Short(points, cells)) => pair(9, points, cells),
+        }
+    }
+}
+
+impl From<Result<Loaded, LoadError>> for Answer {
+    ghost from_gives = { loaded };
+
+    fn from(a: Result<Loaded, LoadError>) -> Answer {
+        match a {
+            Ok(mesh) => pair(0, mesh.points, mesh.cells),
+            Err(LoadError::Refused(why)) => counts(why.number(), 0),
+            Err(LoadError::Short(points, cells)) => pair(9, points, cells),
+        }
+    }
+}
+
+impl From<Result<Told, CountError>> for Answer {
+    ghost from_gives = { told };
+
+    fn from(a: Result<Told, CountError>) -> Answer {
+        match a {
+            Ok(marks) => pair(0, marks.kept, marks.dropped),
+            Err(why) => of_error(why),
+        }
+    }
+}
+
+impl From<Result<Totals, Uncovered>> for CoveredAnswer {
+    ghost from_gives = { covered };
+
+    fn from(a: Result<Totals, Uncovered>) -> CoveredAnswer {
+        match a {
+            Ok(totals) => CoveredAnswer { number: 0, totals },
+            Err(kept) => CoveredAnswer {
+                number: kept.why.number(),
+                totals: kept.totals,
+            },
+        }
     }
 }
