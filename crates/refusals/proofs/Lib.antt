@@ -1,5 +1,4 @@
--- Laws of the refusals in their order, of the causes that steps share, and of the outcome of a step that counts.
+-- Laws of the refusals in their order, of the causes that steps share, and of each refusal and its number.
 pub mod Rows
 pub mod Causes
-pub mod Counting
 pub mod Refusals

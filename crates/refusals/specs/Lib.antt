@@ -2,4 +2,3 @@
 pub mod Rows
 pub mod Causes
 pub mod Refusals
-pub mod Counted
