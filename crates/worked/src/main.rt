@@ -5,27 +5,11 @@
 use plan::{Bounds, Plan, Planned, Refusal};
 use std::io;
 
-fn print_text(rt: &impl Print, text: &str) -> io::Result<()> {
-    rt.print(text)
-}
-
-fn print_number(rt: &impl Print, n: u32) -> io::Result<()> {
-    print!(rt; " {n}")
-}
-
-fn print_pattern(rt: &impl Print, x: f32) -> io::Result<()> {
-    let pattern = float32::from_f32(x);
-    print!(rt; " {pattern:08x}")
-}
-
-// 0 where there is none.
+// A number of 0 where there is none.
 fn print_refusal(rt: &impl Print, why: Refusal) -> io::Result<()> {
     match why {
-        Refusal::Number(number) => print_number(rt, number),
-        Refusal::TooLarge(fault) => {
-            print_number(rt, 4)?;
-            print_number(rt, fault)
-        }
+        Refusal::Number(number) => print!(rt; " {number}"),
+        Refusal::TooLarge(fault) => print!(rt; " 4 {}", fault.number()),
     }
 }
 
@@ -52,35 +36,32 @@ fn show(
     let a = Plan::new(b, float32::to_f32(c), levels);
     print_refusal(rt, a.refusal())?;
     if let Planned::Ready(p) = a {
-        print_pattern(rt, p.ox)?;
-        print_pattern(rt, p.half)?;
-        print_number(rt, p.nx)?;
-        print_number(rt, p.ny)?;
-        print_number(rt, p.nz)?;
-        print_number(rt, p.octants)?;
+        let origin = float32::from_f32(p.ox);
+        let unit = float32::from_f32(p.half);
+        print!(rt;
+            " {origin:08x} {unit:08x} {} {} {} {}",
+            p.nx, p.ny, p.nz, p.octants
+        )?;
     }
-    print_text(rt, "\n")
+    println!(rt)
 }
 
 fn main(rt: HostRuntime) -> io::Result<()> {
-    print_text(&rt, "c 1, L 1, x to 58 and to 59\n")?;
+    println!(&rt; "c 1, L 1, x to 58 and to 59")?;
     show(&rt, 0, 0x4268_0000, 0, 0, 0x3F80_0000, 1)?;
     show(&rt, 0, 0x426C_0000, 0, 0, 0x3F80_0000, 1)?;
-    print_text(&rt, "c 1, L 0, x to 60 and to 60.5\n")?;
+    println!(&rt; "c 1, L 0, x to 60 and to 60.5")?;
     show(&rt, 0, 0x4270_0000, 0, 0, 0x3F80_0000, 0)?;
     show(&rt, 0, 0x4272_0000, 0, 0, 0x3F80_0000, 0)?;
-    print_text(&rt, "c 1, L 5, box all 0 and x to 0.25; L 6\n")?;
+    println!(&rt; "c 1, L 5, box all 0 and x to 0.25; L 6")?;
     show(&rt, 0, 0, 0, 0, 0x3F80_0000, 5)?;
     show(&rt, 0, 0x3E80_0000, 0, 0, 0x3F80_0000, 5)?;
     show(&rt, 0, 0, 0, 0, 0x3F80_0000, 6)?;
-    print_text(
-        &rt,
-        "x at -7.3127151, c 0.3, L 1: the loosened bounds are rounded\n",
-    )?;
+    println!(&rt; "x at -7.3127151, c 0.3, L 1: the loosened bounds are rounded")?;
     show(&rt, 0xC0EA_01C3, 0xC0EA_01C3, 0, 0, 0x3E99_999A, 1)?;
-    print_text(&rt, "c 1.7, L 1\n")?;
+    println!(&rt; "c 1.7, L 1")?;
     show(&rt, 0, 0, 0, 0, 0x3FD9_999A, 1)?;
-    print_text(&rt, "box at 1e8, c 1, L 1\n")?;
+    println!(&rt; "box at 1e8, c 1, L 1")?;
     show(
         &rt,
         0x4CBE_BC20,
@@ -90,20 +71,18 @@ fn main(rt: HostRuntime) -> io::Result<()> {
         0x3F80_0000,
         1,
     )?;
-    print_text(&rt, "c 5 * 2^-149, L 2; c 2^-149, L 1 and L 0\n")?;
+    println!(&rt; "c 5 * 2^-149, L 2; c 2^-149, L 1 and L 0")?;
     show(&rt, 0, 0, 0, 0, 5, 2)?;
     show(&rt, 0, 0, 0, 0, 1, 1)?;
     show(&rt, 0, 0, 0, 0, 1, 0)?;
-    print_text(
-        &rt,
-        "only the far corner is not finite: c 2^104, y one place below the greatest, L 0; two places, L 1; c 5.6e37, x to 1e36, L 1\n",
+    println!(&rt;
+        "only the far corner is not finite: c 2^104, y one place below the greatest, L 0; two places, L 1; c 5.6e37, x to 1e36, L 1"
     )?;
     show(&rt, 0, 0, 0x7F7F_FFFE, 0x7F7F_FFFE, 0x7380_0000, 0)?;
     show(&rt, 0, 0, 0x7F7F_FFFD, 0x7F7F_FFFD, 0x7380_0000, 1)?;
     show(&rt, 0, 0x7B40_97CE, 0, 0, 0x7E28_84D5, 1)?;
-    print_text(
-        &rt,
-        "x from 0 to -0; x from NaN; x to infinity; x from 1 to 0; c NaN and x from NaN\n",
+    println!(&rt;
+        "x from 0 to -0; x from NaN; x to infinity; x from 1 to 0; c NaN and x from NaN"
     )?;
     show(&rt, 0, 0x8000_0000, 0, 0, 0x3F80_0000, 1)?;
     show(&rt, 0x7FC0_0000, 0, 0, 0, 0x3F80_0000, 1)?;
