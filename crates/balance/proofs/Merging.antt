@@ -1,15 +1,14 @@
 -- Marking the shell of a row. Assumes nothing.
 use mathlib.Core.Path.{◌≡◌, refl, ap, sym, ◌∙◌}
-use mathlib.Core.Bool.{Bool, true, false, ◌||◌, or-false, or_assoc}
+use mathlib.Core.Bool.{Bool, false, ◌||◌, or-false, or_assoc}
 use mathlib.Core.List.{List}
-use Prim.Native.Nat.{ℕ, zero, suc, ◌+◌, ◌*◌, ◌≤◌, ◌<◌}
+use Prim.Native.Nat.{ℕ, zero, suc, ◌+◌, ◌≤◌}
 use native.Mathlib.Omega.{arith}
 use native.Mathlib.Numerals.{add-one}
 use borrow.Author.Tests.{le-leb, lt-leb}
 use Rattle.lists.specs.Tests.{any}
-use Rattle.lists.proofs.Any.{any_found}
 use Rattle.octree.specs.Sweep.{one}
-use Rattle.balance.specs.Parts.{from, some, Merged, touched_of}
+use Rattle.balance.specs.Parts.{from, some, Merged}
 
 -- ---- rows after one another
 
@@ -41,18 +40,3 @@ pub marks_more : {a b c : List ℕ} {w : ℕ} (lo y : ℕ) (F : ℕ → ℕ → 
     → Merged a c w (λ x. some lo (y + 1) (λ k. F k x))
 unfolding any
 marks_more lo y F h p q = merged_then p q (λ x. rw (add-one y, le-leb lo y h))
-
--- the four entries, one by one
-module _ (seen : List ℕ) (x : ℕ) where
-  double : 2 * x + 0 ≡ 2 * x
-  double = omega arith
-
-  pub touched_first : one seen (2 * x) ≡ true → true ≡ touched_of seen x
-  touched_first h = any_found (λ e. one seen (2 * x + e)) 4 0 (omega arith) (ap (one seen) double ∙ h)
-
-  pub touched_later : (e : ℕ) → e < 4 → one seen (2 * x + e) ≡ true → true ≡ touched_of seen x
-  touched_later e f h = any_found (λ e. one seen (2 * x + e)) 4 e f h
-
-  pub touched_last : one seen (2 * x) ≡ false → one seen (2 * x + 1) ≡ false → one seen (2 * x + 2) ≡ false → one seen (2 * x + 3) ≡ touched_of seen x
-  unfolding any
-  touched_last p q r = rw (double, p, q, r)

@@ -60,7 +60,7 @@ fn first_near(y: usize) -> usize
     requires { y < 2 ^ 32 }
     ensures { result ≡ 2 * y - 1 }
 {
-    if y == 0 { 0 } else { 2 * y - 1 }
+    (2 * y).saturating_sub(1)
 }
 
 // One past the last octant of the level below that touches octant y, of n.
@@ -89,21 +89,13 @@ fn shell(seen: &mut [u8], s: &[u8], v: Level, y: usize, z: usize)
 }
 
 // Whether one of the four octants of the level below that touch octant x along the row is marked.
+#[tactic(auto, unfolding(lists::specs::Tests::any))]
 fn touched(seen: &[u8], x: usize) -> bool
     requires { 2 * x + 3 < length seen.now }
     ensures { result ≡ touched_of seen.now x }
 {
     let i = 2 * x;
-    if seen[i] == 1 {
-        return true;
-    }
-    if seen[i + 1] == 1 {
-        return true;
-    }
-    if seen[i + 2] == 1 {
-        return true;
-    }
-    seen[i + 3] == 1
+    seen[i] == 1 || seen[i + 1] == 1 || seen[i + 2] == 1 || seen[i + 3] == 1
 }
 
 // The byte of an octant that is split already, or touched by a split octant of the level below.
