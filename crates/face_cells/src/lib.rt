@@ -4,12 +4,11 @@
 ghost use Rattle.std.specs.Prelude.{◌≡◌, true, ◌+◌, ◌*◌, ◌^◌, ◌≤◌, ◌<◌, length};
 ghost use Rattle.lists.specs.Runs.{Stored, Room};
 ghost use Rattle.vertex_keys.specs.Keys.{most_keys};
-ghost use Rattle.vertex_keys.specs.Parts.{Lookup};
 ghost use Rattle.face_cells.specs.Parts.{rank_in, over_numbers, fan_numbers, halves_numbers, turned_numbers, face_numbers, low_face, high_face, axis_numbers, corners_at, from_next, leaf_numbers, Turns, AllTurn};
 
 use lists::store_all;
 use sides::{Beside, Edges, Sides};
-use vertex_keys::{STRIDE_X, STRIDE_Y, find, near};
+use vertex_keys::{Numbering, STRIDE_X, STRIDE_Y};
 
 // A leaf from an axis on, the two others after it: the numbers of its centre and its corners, the key of corner 0, and half its width
 // along each axis. A corner's place has 1 for the high end of the first axis, 2 of the second, 4 of the third.
@@ -55,13 +54,12 @@ struct Edge {
 }
 
 // The cells over an edge: two where a finer vertex stands at its midpoint.
-fn over(work: &[u64], vertices: usize, out: &mut [u32], at: usize, fine: bool, e: Edge) -> usize
-    requires lookup { Lookup work.now vertices }
-    requires room { Room out.old at (over_numbers (rank_in work.now vertices) fine e) }
-    ensures { Stored out.old at (over_numbers (rank_in work.now vertices) fine e) result out.new }
+fn over(keys: Numbering, out: &mut [u32], at: usize, fine: bool, e: Edge) -> usize
+    requires room { Room out.old at (over_numbers (rank_in keys.entries.now keys.count) fine e) }
+    ensures { Stored out.old at (over_numbers (rank_in keys.entry.entries.now keys.entry.count) fine e) result out.new }
 {
     if fine {
-        let n = find(work, vertices, e.m);
+        let n = keys.find(e.m);
         store_all(out, at, [e.p, e.q, e.a, n]);
         store_all(out, at + 4, [e.p, e.q, n, e.b]);
         at + 8
@@ -72,20 +70,10 @@ fn over(work: &[u64], vertices: usize, out: &mut [u32], at: usize, fine: bool, e
 }
 
 // The cells around a face between p and q, by which of its edges have a finer vertex at the midpoint.
-fn fan(
-    work: &[u64],
-    vertices: usize,
-    out: &mut [u32],
-    at: usize,
-    p: u32,
-    q: u32,
-    f: Quad,
-    fine: Edges,
-) -> usize
-    requires lookup { Lookup work.now vertices }
+fn fan(keys: Numbering, out: &mut [u32], at: usize, p: u32, q: u32, f: Quad, fine: Edges) -> usize
     requires keys_fit { f.k + 2 * f.v + 2 * f.w < 2 ^ 64 }
-    requires room { Room out.old at (fan_numbers (rank_in work.now vertices) p q f fine) }
-    ensures { Stored out.old at (fan_numbers (rank_in work.now vertices) p q f fine) result out.new }
+    requires room { Room out.old at (fan_numbers (rank_in keys.entries.now keys.count) p q f fine) }
+    ensures { Stored out.old at (fan_numbers (rank_in keys.entry.entries.now keys.entry.count) p q f fine) result out.new }
 {
     let k = f.k;
     let v = f.v;
@@ -118,10 +106,10 @@ fn fan(
         b: f.p0,
         m: k + w,
     };
-    let n = over(work, vertices, out, at, fine.e0, a);
-    let m = over(work, vertices, out, n, fine.e1, b);
-    let l = over(work, vertices, out, m, fine.e2, c);
-    over(work, vertices, out, l, fine.e3, d)
+    let n = over(keys, out, at, fine.e0, a);
+    let m = over(keys, out, n, fine.e1, b);
+    let l = over(keys, out, m, fine.e2, c);
+    over(keys, out, l, fine.e3, d)
 }
 
 // Two half-pyramids.
@@ -153,35 +141,26 @@ fn turned(out: &mut [u32], at: usize, n: u64, c: u32, p: u32, q: u32, r: u32, s:
 }
 
 // The cells of a leaf with the centre c at a face, by what stands beside it.
-fn face_cells(
-    work: &[u64],
-    vertices: usize,
-    out: &mut [u32],
-    at: usize,
-    side: Beside,
-    c: u32,
-    f: Quad,
-) -> usize
-    requires lookup { Lookup work.now vertices }
+fn face_cells(keys: Numbering, out: &mut [u32], at: usize, side: Beside, c: u32, f: Quad) -> usize
     requires keys_fit { f.k + f.u + 2 * f.v + 2 * f.w < 2 ^ 64 }
     requires turns { Turns side }
-    requires room { Room out.old at (face_numbers (rank_in work.now vertices) side c f) }
-    ensures { Stored out.old at (face_numbers (rank_in work.now vertices) side c f) result out.new }
+    requires room { Room out.old at (face_numbers (rank_in keys.entries.now keys.count) side c f) }
+    ensures { Stored out.old at (face_numbers (rank_in keys.entry.entries.now keys.entry.count) side c f) result out.new }
 {
     match side {
         Beside::Split => {
-            let m = find(work, vertices, f.k + f.v + f.w);
+            let m = keys.find(f.k + f.v + f.w);
             let all = Edges {
                 e0: true,
                 e1: true,
                 e2: true,
                 e3: true,
             };
-            fan(work, vertices, out, at, m, c, f, all)
+            fan(keys, out, at, m, c, f, all)
         }
         Beside::Equal(fine) => {
-            let o = near(work, vertices, c as usize + 1, f.k + f.u + f.v + f.w);
-            fan(work, vertices, out, at, c, o, f, fine)
+            let o = keys.near(c as usize + 1, f.k + f.u + f.v + f.w);
+            fan(keys, out, at, c, o, f, fine)
         }
         Beside::Given => at,
         Beside::Coarser(n) => turned(out, at, n, c, f.p0, f.p1, f.p2, f.p3),
@@ -222,42 +201,39 @@ fn high_face(o: Corners) -> Quad
 
 // The cells at both faces across the first axis of a leaf.
 fn axis_cells(
-    work: &[u64],
-    vertices: usize,
+    keys: Numbering,
     out: &mut [u32],
     at: usize,
     low: Beside,
     high: Beside,
     o: Corners,
 ) -> usize
-    requires lookup { Lookup work.now vertices }
     requires keys_fit { o.k + 3 * o.u + 2 * o.v + 2 * o.w < 2 ^ 64 }
     requires turns { Turns low × Turns high }
-    requires room { Room out.old at (axis_numbers (rank_in work.now vertices) low high o) }
-    ensures { Stored out.old at (axis_numbers (rank_in work.now vertices) low high o) result out.new }
+    requires room { Room out.old at (axis_numbers (rank_in keys.entries.now keys.count) low high o) }
+    ensures { Stored out.old at (axis_numbers (rank_in keys.entry.entries.now keys.entry.count) low high o) result out.new }
 {
-    let n = face_cells(work, vertices, out, at, low, o.centre, low_face(o));
-    face_cells(work, vertices, out, n, high, o.centre, high_face(o))
+    let n = face_cells(keys, out, at, low, o.centre, low_face(o));
+    face_cells(keys, out, n, high, o.centre, high_face(o))
 }
 
 // Finds the leaf whose low corner has the key k. A corner mostly stands next to the one below it along the third axis.
-fn corners_at(work: &[u64], vertices: usize, k: u64, u: u64, v: u64, w: u64) -> Corners
-    requires lookup { Lookup work.now vertices }
+fn corners_at(keys: Numbering, k: u64, u: u64, v: u64, w: u64) -> Corners
     requires keys_fit { k + 2 * u + 2 * v + 2 * w < 2 ^ 64 }
-    ensures { result ≡ corners_at (rank_in work.now vertices) k u v w }
+    ensures { result ≡ corners_at (rank_in keys.entry.entries.now keys.entry.count) k u v w }
 {
     let x = k + 2 * u;
     let y = 2 * v;
     let z = 2 * w;
-    let centre = find(work, vertices, k + u + v + w);
-    let c0 = find(work, vertices, k);
-    let c1 = find(work, vertices, x);
-    let c2 = find(work, vertices, k + y);
-    let c3 = find(work, vertices, x + y);
-    let c4 = near(work, vertices, c0 as usize + 1, k + z);
-    let c5 = near(work, vertices, c1 as usize + 1, x + z);
-    let c6 = near(work, vertices, c2 as usize + 1, k + y + z);
-    let c7 = near(work, vertices, c3 as usize + 1, x + y + z);
+    let centre = keys.find(k + u + v + w);
+    let c0 = keys.find(k);
+    let c1 = keys.find(x);
+    let c2 = keys.find(k + y);
+    let c3 = keys.find(x + y);
+    let c4 = keys.near(c0 as usize + 1, k + z);
+    let c5 = keys.near(c1 as usize + 1, x + z);
+    let c6 = keys.near(c2 as usize + 1, k + y + z);
+    let c7 = keys.near(c3 as usize + 1, x + y + z);
     Corners {
         centre,
         c0,
@@ -297,22 +273,13 @@ fn from_next(o: Corners) -> Corners
 }
 
 // The cells of a leaf with these sides: k is the key of its low corner, h half its width.
-pub fn six_faces(
-    work: &[u64],
-    vertices: usize,
-    out: &mut [u32],
-    at: usize,
-    f: Sides,
-    k: u64,
-    h: u64,
-) -> usize
-    requires lookup { Lookup work.now vertices }
+pub fn six_faces(keys: Numbering, out: &mut [u32], at: usize, f: Sides, k: u64, h: u64) -> usize
     requires leaf_small { (k < most_keys) × (h ≤ 32) }
     requires all_turn { AllTurn f }
-    requires room { Room out.old at (leaf_numbers (rank_in work.now vertices) f k h) }
-    ensures { Stored out.old at (leaf_numbers (rank_in work.now vertices) f k h) result out.new }
+    requires room { Room out.old at (leaf_numbers (rank_in keys.entries.now keys.count) f k h) }
+    ensures { Stored out.old at (leaf_numbers (rank_in keys.entry.entries.now keys.entry.count) f k h) result out.new }
 {
-    let x = corners_at(work, vertices, k, h * STRIDE_X, h * STRIDE_Y, h);
+    let x = corners_at(keys, k, h * STRIDE_X, h * STRIDE_Y, h);
     let y = from_next(x);
     let z = from_next(y);
     let x0 = f.x0;
@@ -321,7 +288,7 @@ pub fn six_faces(
     let y1 = f.y1;
     let z0 = f.z0;
     let z1 = f.z1;
-    let n = axis_cells(work, vertices, out, at, x0, x1, x);
-    let m = axis_cells(work, vertices, out, n, y0, y1, y);
-    axis_cells(work, vertices, out, m, z0, z1, z)
+    let n = axis_cells(keys, out, at, x0, x1, x);
+    let m = axis_cells(keys, out, n, y0, y1, y);
+    axis_cells(keys, out, m, z0, z1, z)
 }

@@ -17,6 +17,7 @@ ghost use Rattle.std.proofs.lemmas.List.Edits.{sets};
 use octree::Roots;
 use plan::{Bounds, Plan, Planned};
 use refusals::Refusal;
+use vertex_keys::Numbering;
 
 // How many cells and vertices there are.
 #[derive(Clone, Copy, Debug, PartialEq, Eq)]
@@ -178,7 +179,11 @@ fn octree_fill(
     }
     let most = 3 * v;
     store_vertices(work, v, &mut triples[..most], &mut points[..most], p);
-    leaf_cells::store_cells(split, d, work, v, 9 * many + 1, many, cells);
+    let keys = Numbering {
+        entries: work,
+        count: v,
+    };
+    leaf_cells::store_cells(split, d, keys, 9 * many + 1, many, cells);
     work.fill(0);
     Ok(Gridded {
         cells: count as u64,

@@ -6,7 +6,6 @@ ghost use Rattle.std.proofs.lemmas.List.Edits.{sets};
 ghost use Rattle.lists.specs.Runs.{Stored, Room};
 ghost use Rattle.octree_cells.specs.Cells.{flat};
 ghost use Rattle.vertex_keys.specs.Keys.{most_keys};
-ghost use Rattle.vertex_keys.specs.Parts.{Lookup};
 ghost use Rattle.sides.specs.Parts.{Taken, cells_in};
 ghost use Rattle.leaves.specs.Parts.{level_in};
 ghost use Rattle.leaf_cells.specs.Parts.{Placed, AllPlaced, ListedIn, cells_of, low_in, nine_keys, keys_in, keys_from, number_in, Standing};
@@ -15,7 +14,7 @@ use face_cells::six_faces;
 use leaves::unpack;
 use octree::{Roots, along};
 use sides::sides_at;
-use vertex_keys::{KEYS, STRIDE_X, STRIDE_Y};
+use vertex_keys::{KEYS, Numbering, STRIDE_X, STRIDE_Y};
 
 // The keys of a leaf's centre and corners, from the high corner down: k is the key of the low one, u, v and w half the leaf's
 // width along x, y and z.
@@ -80,41 +79,39 @@ pub fn leaf_keys(work: &mut [u64], list: usize, leaves: usize)
     }
 }
 
-// The cells of a listed leaf, each vertex by its number among the keys in the front of the work.
+// The cells of a listed leaf, each vertex by its number.
 fn leaf_cells(
     split: &[u8],
     d: Roots,
-    work: &[u64],
-    vertices: usize,
+    keys: Numbering,
     leaf: u64,
     out: &mut [u32],
     at: usize,
 ) -> usize
-    requires taken { Taken split.now d × ListedIn split.now d leaf × Lookup work.now vertices }
-    requires room { Room out.old at (flat (number_in work.now vertices) (cells_of split.now d leaf)) }
-    ensures { Stored out.old at (flat (number_in work.now vertices) (cells_of split.now d leaf)) result out.new }
+    requires taken { Taken split.now d × ListedIn split.now d leaf }
+    requires room { Room out.old at (flat (number_in keys.entries.now keys.count) (cells_of split.now d leaf)) }
+    ensures { Stored out.old at (flat (number_in keys.entry.entries.now keys.entry.count) (cells_of split.now d leaf)) result out.new }
 {
     let f = sides_at(split, d, unpack(leaf));
     let h = half_of(leaf);
-    six_faces(work, vertices, out, at, f, low_of(leaf, h), h)
+    six_faces(keys, out, at, f, low_of(leaf, h), h)
 }
 
-// The cells of all leaves, in the order of the list, which stands in the work from `list` on.
+// The cells of all leaves, in the order of the list, which stands behind the keys from `list` on.
 pub fn store_cells(
     split: &[u8],
     d: Roots,
-    work: &[u64],
-    vertices: usize,
+    keys: Numbering,
     list: usize,
     leaves: usize,
     out: &mut [u32],
 )
-    requires taken { Taken split.now d × Lookup work.now vertices × Standing split.now d work.now list leaves }
+    requires taken { Taken split.now d × Standing split.now d keys.entries.now list leaves }
     requires out_len { length out.old ≡ 4 * length (cells_in split.now d) }
-    ensures { out.new ≡ flat (number_in work.now vertices) (cells_in split.now d) }
+    ensures { out.new ≡ flat (number_in keys.entry.entries.now keys.entry.count) (cells_in split.now d) }
 {
     let mut at: usize = 0;
-    for leaf in &work[list..list + leaves] {
-        at = leaf_cells(split, d, work, vertices, *leaf, out, at);
+    for leaf in &keys.entries[list..list + leaves] {
+        at = leaf_cells(split, d, keys, *leaf, out, at);
     }
 }

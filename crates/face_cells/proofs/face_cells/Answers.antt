@@ -4,10 +4,10 @@ use Rattle.face_cells.proofs.Laws.{room_to, room_halves, halves_room, room_fan, 
 use Rattle.face_cells.proofs.face_cells.Goals as goal
 
 pub fan-requires : goal.fan-requires
-fan-requires c = record { lookup = c.requires.lookup; keys_fit = omega (arith, c.requires.keys_fit); room = room_fan _ _ _ _ _ _ _ (room_to (face_split _ _ _ _ _ c.in-Split.is c.find-m.ensures) c.requires.room) }
+fan-requires c = record { keys_fit = omega (arith, c.requires.keys_fit); room = room_fan _ _ _ _ _ _ _ (room_to (face_split _ _ _ _ _ c.in-Split.is c.find-m.ensures) c.requires.room) }
 
 pub fan-requires-in-Equal : goal.fan-requires-in-Equal
-fan-requires-in-Equal c = record { lookup = c.requires.lookup; keys_fit = omega (arith, c.requires.keys_fit); room = room_fan _ _ _ _ _ _ _ (room_to (face_equal _ _ _ _ _ c.in-Equal.is c.near-o.ensures) c.requires.room) }
+fan-requires-in-Equal c = record { keys_fit = omega (arith, c.requires.keys_fit); room = room_fan _ _ _ _ _ _ _ (room_to (face_equal _ _ _ _ _ c.in-Equal.is c.near-o.ensures) c.requires.room) }
 
 pub turned-requires : goal.turned-requires
 turned-requires c = record { n_bound = turns_few _ c.in-Coarser.is c.requires.turns; at_in_bounds = turned_room _ _ _ _ _ _ (room_to (face_coarser _ _ _ _ c.in-Coarser.is) c.requires.room) }

@@ -53,7 +53,7 @@ store_cells-requires c =
     let k = rw c.roots_of-d.ensures at c.number_vertices-v.ensures in
     let m = h.numberable in
     rw c.roots_of-d.ensures (record {
-      taken = (m.taken, k.lookup, record { fits = omega (arith, m.room, c.number_vertices-v.auto.work); many = m.leaves; here = k.list });
+      taken = (m.taken, record { fits = omega (arith, m.room, c.number_vertices-v.auto.work); many = m.leaves; here = k.list });
       out_len = h.cells ∙ ap (λ (i : ℕ). 4 * i) (octree_cell_count a.p a.split.now h.some);
     })
 

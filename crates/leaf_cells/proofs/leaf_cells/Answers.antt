@@ -17,9 +17,8 @@ pub six_faces-requires : goal.six_faces-requires
 six_faces-requires c =
     let s = c.requires.taken in
     let u = c.unpack.ensures in
-    let e = leaf_numbers_lem _ _ s.0 _ s.1 u.0 u.1 c.sides_at-f.ensures c.args.work.now c.args.vertices c.low_of.ensures.0 c.half_of-h.ensures.0 in
+    let e = leaf_numbers_lem _ _ s.0 _ s.1 u.0 u.1 c.sides_at-f.ensures c.args.keys.entries.now c.args.keys.count c.low_of.ensures.0 c.half_of-h.ensures.0 in
     record {
-      lookup = s.2;
       leaf_small = (c.low_of.ensures.1, c.half_of-h.ensures.1);
       all_turn = sides_turn _ _ s.0 _ s.1 u.0 u.1 c.sides_at-f.ensures;
       room = room_to e c.requires.room;
@@ -29,5 +28,5 @@ pub returns : goal.returns
 returns c =
     let s = c.requires.taken in
     let u = c.unpack.ensures in
-    let e = leaf_numbers_lem _ _ s.0 _ s.1 u.0 u.1 c.sides_at-f.ensures c.args.work.now c.args.vertices c.low_of.ensures.0 c.half_of-h.ensures.0 in
+    let e = leaf_numbers_lem _ _ s.0 _ s.1 u.0 u.1 c.sides_at-f.ensures c.args.keys.entries.now c.args.keys.count c.low_of.ensures.0 c.half_of-h.ensures.0 in
     stored_as e c.six_faces.ensures

@@ -9,20 +9,20 @@ loop-leaf-init c = emitting_start _ _ _ _ _ _ _
 pub leaf_cells-at-requires : goal.leaf_cells-at-requires
 leaf_cells-at-requires c =
     let s = c.requires.taken in
-    let e = entry_at c.args.work.now c.args.list c.args.leaves c.loop-leaf.leaf-index (omega arith) in
+    let e = entry_at c.args.keys.entries.now c.args.list c.args.leaves c.loop-leaf.leaf-index (omega arith) in
     rw e
     record {
-      taken = (s.0, listed _ _ s.0 _ _ _ s.2 _ (omega arith), s.1);
-      room = emitting_room _ _ _ _ _ _ _ _ _ _ c.loop-leaf.invariant s.0 s.2 c.requires.out_len (omega arith);
+      taken = (s.0, listed _ _ s.0 _ _ _ s.1 _ (omega arith));
+      room = emitting_room _ _ _ _ _ _ _ _ _ _ c.loop-leaf.invariant s.0 s.1 c.requires.out_len (omega arith);
     }
 
 pub loop-leaf-preserved : goal.loop-leaf-preserved
 loop-leaf-preserved c =
-    let e = entry_at c.args.work.now c.args.list c.args.leaves c.loop-leaf.leaf-index (omega arith) in
+    let e = entry_at c.args.keys.entries.now c.args.list c.args.leaves c.loop-leaf.leaf-index (omega arith) in
     emitting_on _ _ _ _ _ _ _ _ _ _ c.loop-leaf.invariant _ _ (omega arith) (rw e at c.leaf_cells-at.ensures)
 
 pub shape_of-out : goal.shape_of-out
 shape_of-out c = c.loop-leaf.invariant.same
 
 pub returns : goal.returns
-returns c = emitting_done _ _ _ _ _ _ _ _ _ _ c.loop-leaf.invariant c.requires.taken.0 c.requires.taken.2 c.requires.out_len (omega arith)
+returns c = emitting_done _ _ _ _ _ _ _ _ _ _ c.loop-leaf.invariant c.requires.taken.0 c.requires.taken.1 c.requires.out_len (omega arith)
