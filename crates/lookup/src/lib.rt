@@ -11,7 +11,7 @@ ghost use Rattle.lookup.specs.Parts.{ancestor_of, descent_of, covered_of};
 
 use octree::{Octant, Octree, is_inside, is_split, level_at};
 
-// The leaf that covers an octant; split, so that several leaves cover it; or out of range.
+// The leaf that covers an octant; split, so that several leaves cover it; or out of range. No `Option`: the two without a leaf are told apart.
 #[derive(Clone, Copy)]
 pub enum Covered {
     Leaf(Octant),
