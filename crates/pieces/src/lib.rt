@@ -1,7 +1,7 @@
 // The steps `face_components` and `one_piece`: which cells of a mesh hang together through whole faces.
 #![tactic(auto)]
 
-ghost use Rattle.std.specs.Prelude.{◌≡◌, ◌/◌, length};
+ghost use Rattle.std.specs.Prelude.{◌/◌, length};
 ghost use Rattle.pieces.specs.Parts.{NextAsked, NextJoined, LinkAsked, Linked, NumberAsked, Numbered, Fits, Listed};
 ghost use Rattle.pieces.specs.Step.{FaceComponentsDone, OnePieceDone};
 

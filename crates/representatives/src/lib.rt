@@ -2,7 +2,6 @@
 #![tactic(auto)]
 
 ghost use Rattle.std.specs.Prelude.{◌≡◌, length, replicate};
-ghost use Rattle.lists.specs.Runs.{those};
 ghost use Rattle.groups.specs.Parts.{Laid, Labelled};
 ghost use Rattle.representatives.specs.Step.{RepresentativesDone};
 ghost use Rattle.representatives.specs.Parts.{Readable, is_last, Storable, ListedAt, Storing, Listed, RoomFor, Found, Represents};
