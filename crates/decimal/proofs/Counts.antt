@@ -53,9 +53,6 @@ pub record Counting (b : List ℕ) (at x value q i : ℕ) : Type 0 where
   pub still : more_at 9 b at x ≡ more_at (9 - i) b q value
   pub small : value < 10 ^ suc i
 
-pub counting_start : (b : List ℕ) (at x : ℕ) → x < 10 → Counting b at x x at 0
-counting_start b at x h = record { less = omega arith; still = refl; small = h }
-
 module _ (b : List ℕ) (at x value q i : ℕ) (w : Counting b at x value q i) where
   pub counting_on : i < 9 → is_digit (get_or b q 0) ≡ true → Counting b at x (10 * value + (get_or b q 0 - 48)) (q + 1) (i + 1)
   counting_on h e =
@@ -66,9 +63,6 @@ module _ (b : List ℕ) (at x value q i : ℕ) (w : Counting b at x value q i) w
         still = w.still ∙ more_on b q value (9 - i) (get_or b q 0) (omega arith) refl d.0 d.1 ∙ ap (λ (k : ℕ). more_at k b (q + 1) (10 * value + (get_or b q 0 - 48))) n;
         small = rw (add-one i, pow_ten (suc i)) (omega (arith, w.small));
       }
-
-  pub counting_fits : i < 9 → value < 1000000000
-  counting_fits h = omega (arith, w.small, pow-le-pow_right {n = 10} (omega arith) {i = suc i} {j = 9} (omega arith))
 
   pub counting_off : is_digit (get_or b q 0) ≡ false → read value q ≡ more_at 9 b at x
   counting_off e = sym (w.still ∙ more_off b q value (9 - i) e)

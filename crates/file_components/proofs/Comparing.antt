@@ -20,7 +20,7 @@ use Rattle.components.specs.Numbers.{component_numbers}
 use Rattle.components.specs.Parts.{Askable, NumberedAt, Linked}
 use Rattle.components.proofs.Patterns.{length_components}
 use Rattle.components.proofs.Counting.{alike_numbers}
-use Rattle.components.proofs.Numbering.{Numbering, numbering_start, asks_for, count_small, number_is, numbering_on}
+use Rattle.components.proofs.Numbering.{Numbering, numbering_start, asks_for, number_is, numbering_on}
 use Rattle.file_components.specs.Blocks.{cells_in, numbers_in, right_numbers}
 use Rattle.file_components.specs.declared.Blocks.{Blocks}
 
@@ -85,9 +85,6 @@ module _ (b : List ℕ) (s : Blocks) where
 
         pub comparing_asks : Askable n w v count
         comparing_asks = asks_for l.numbering i_in v ev
-
-        pub count_fits : count + 1 < 4294967296
-        count_fits = omega (arith, count_small l.numbering i_in v ev)
 
         module _ (w' : List ℕ) (k : ℕ) (kept : length w' ≡ length w) (a : NumberedAt n w w' v count k) {x y : ℕ} (ex : x ≡ y) (ey : y ≡ word_at s.big b (s.numbers + 4 * i)) where
           k_is : k ≡ get_or N i 0

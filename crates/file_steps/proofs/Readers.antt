@@ -19,10 +19,9 @@ use Rattle.mesh.specs.Mesh.{most, Cells}
 use Rattle.mesh.specs.Judged.{count_rows}
 use Rattle.mesh.proofs.Unrefused.{names_fit}
 use Rattle.words.specs.Words.{words_at}
-use Rattle.words.specs.Parts.{WordsThere}
 use Rattle.components.specs.Parts.{Fits}
 use Rattle.file_components.specs.Blocks.{points_in, cells_in}
-use Rattle.file_components.specs.Parts.{Stands, Told}
+use Rattle.file_components.specs.Parts.{Told}
 use Rattle.file_components.specs.declared.Blocks.{Blocks}
 use Rattle.file_steps.specs.Loaded.{done as read, loaded_by}
 use Rattle.file_steps.specs.Reader.{content_rows, table_rows, number_rows, read_number, Reads}
@@ -121,10 +120,7 @@ contents_fit b s long z =
       names = below_at s.p (cells_in b s) (names_fit s.p (cells_in b s) (rest_clear (count_rows s.p s.n) _ refl z));
     }
 
--- the fronts of tables with room that are lent on
-pub points_there : (b : List ℕ) (s : Blocks) (x : List ℕ) → 3 * s.p ≤ length x → Stands b s → WordsThere b s.points (length (take (3 * s.p) x))
-points_there b s x h st = record { there = λ i k. omega (arith, st.points, length-take-le (3 * s.p) x h) }
-
+-- the front of a work table with room that is lent on
 pub work_fits : (b : List ℕ) (s : Blocks) (w : List ℕ) → 2 * s.p ≤ length w → Cells (cells_in b s) s.p → Fits (cells_in b s) (take (2 * s.p) w)
 work_fits b s w h c =
     let half : length (take (2 * s.p) w) / 2 ≡ s.p = omega (arith, length-take-le (2 * s.p) w h) in

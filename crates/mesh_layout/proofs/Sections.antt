@@ -3,7 +3,7 @@ use mathlib.Core.Path.{◌≡◌, refl, sym, ap, ◌∙◌}
 use mathlib.Core.Bool.{true, false}
 use mathlib.Core.List.{List}
 use Prim.Native.Nat.{ℕ, ◌+◌, ◌-◌, ◌*◌, ◌/◌, ◌≤◌, ◌<◌, min}
-use native.Mathlib.Nat.{mul-le-mul, le-div_iff_mul-le}
+use native.Mathlib.Nat.{le-div_iff_mul-le}
 use native.Mathlib.Omega.{arith}
 use borrow.Author.Tests.{lt-ltb, le-ltb, ltb-false}
 use lib.Dec.{ltb}
@@ -26,10 +26,6 @@ four = record { some = omega arith; few = omega arith }
 
 pub one : Entries 1
 one = record { some = omega arith; few = omega arith }
-
--- a product of a count that does not wrap
-pub count_product : (w n : ℕ) → w ≤ 4 → n < 4294967296 → w * n ≤ 17179869184
-count_product w n h k = omega (arith, mul-le-mul {m₁ = n} {m₂ = 4294967296} h (omega arith))
 
 -- ---- one section
 

@@ -16,7 +16,6 @@ use Rattle.lists.proofs.Listing.{list_is, each_on, each_off, each_end, Filling, 
 use Rattle.lists.proofs.Parts.{sets_append}
 use Rattle.lists.proofs.Tests.{falls, stays}
 use Rattle.words.specs.Words.{bytes4, bytes_of, word_at, words_at, cells_at}
-use Rattle.words.specs.Parts.{WordsThere, CellsThere}
 use Rattle.words.proofs.Words.{length_four, length_words, words_at_lem, length_cells, vertex_place, vertex_at}
 
 -- ---- cells that are read
@@ -44,10 +43,6 @@ module _ (big : Bool) (stride : ℕ) (b : List ℕ) (at n : ℕ) where
   pub cells_read : {y₀ y : List ℕ} {i : ℕ} → Filling (vertex_word big stride b at) y₀ y (4 * i) → length y₀ ≡ 4 * n → n ≤ i → y ≡ cells_at big stride b at n
   unfolding cells_at
   cells_read w l h = filling_done (vertex_word big stride b at) w (omega (arith, w.long)) ∙ ap (list_of (vertex_word big stride b at)) l
-
--- cells without a word between them are there as words
-pub plain_there : (b : List ℕ) (at n m : ℕ) → CellsThere 4 b at n → m ≡ 4 * n → WordsThere b at m
-plain_there b at n m h e = record { there = λ i k. omega (arith, h.there (i / 4) (omega arith)) }
 
 -- ---- four words compared with a bound
 

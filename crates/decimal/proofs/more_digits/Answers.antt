@@ -1,16 +1,6 @@
-use native.Mathlib.Omega.{arith}
 use Rattle.lists.proofs.Tests.{failed, passed}
-use Rattle.decimal.proofs.Counts.{counting_start, counting_on, counting_fits, counting_off, counting_ends, counting_done}
+use Rattle.decimal.proofs.Counts.{counting_on, counting_off, counting_ends, counting_done}
 use Rattle.decimal.proofs.more_digits.Goals as goal
-
-pub loop-init : goal.loop-init
-loop-init c = counting_start _ _ _ c.requires
-
-pub overflow_mul-value : goal.overflow_mul-value
-overflow_mul-value c = omega (arith, counting_fits _ _ _ _ _ _ c.loop.invariant c.loop-test.true)
-
-pub overflow_add-value : goal.overflow_add-value
-overflow_add-value c = omega (arith, counting_fits _ _ _ _ _ _ c.loop.invariant c.loop-test.true, c.type_inv.file c.loop.next)
 
 pub loop-preserved : goal.loop-preserved
 loop-preserved c = rw c.from.ensures (counting_on _ _ _ _ _ _ c.loop.invariant c.loop-test.true (passed c.is_ascii_digit.ensures.value c.if-not-is_ascii_digit.false))

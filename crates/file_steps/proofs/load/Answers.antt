@@ -1,7 +1,7 @@
 use mathlib.Core.Path.{sym}
 use native.Mathlib.Omega.{arith}
 use lib.Seq.{length-take-le}
-use Rattle.file_steps.proofs.Readers.{has, has_not, points_room, cells_room, work_room, points_there, work_fits, short, wrong, done}
+use Rattle.file_steps.proofs.Readers.{has, has_not, points_room, cells_room, work_room, work_fits, short, wrong, done}
 use Rattle.file_steps.proofs.load.Goals as goal
 
 pub returns-then-not-has_room : goal.returns-then-not-has_room
@@ -27,9 +27,6 @@ slice_bounds-get_words-end c = points_room _ _ _ _ _ (has _ _ _ _ _ c.has_room.e
 
 pub slice_bounds-get_words-end-2 : goal.slice_bounds-get_words-end-2
 slice_bounds-get_words-end-2 c = sym (length-take-le _ _ (points_room _ _ _ _ _ (has _ _ _ _ _ c.has_room.ensures c.if-not-has_room.false)))
-
-pub get_words-requires : goal.get_words-requires
-get_words-requires c = points_there _ c.args.s _ (points_room _ _ _ _ _ (has _ _ _ _ _ c.has_room.ensures c.if-not-has_room.false)) c.requires.stands
 
 pub slice_bounds-get_cells-end : goal.slice_bounds-get_cells-end
 slice_bounds-get_cells-end c = cells_room _ _ _ _ _ (has _ _ _ _ _ c.has_room.ensures c.if-not-has_room.false)

@@ -17,9 +17,6 @@ overflow_add-bytes-2 c = let f = mesh_fits _ _ _ _ _ (sym c.in_ok-judge.ensures)
 pub returns-then-file-bytes : goal.returns-then-file-bytes
 returns-then-file-bytes c = short _ _ _ _ _ _ _ (sym c.in_ok-judge.ensures) refl c.if-file-bytes.true
 
-pub slice_bounds-put_mesh-end-2 : goal.slice_bounds-put_mesh-end-2
-slice_bounds-put_mesh-end-2 c = sym (length-take-le _ _ c.if-file-bytes.false)
-
 pub slice_bounds-put_mesh-end-3 : goal.slice_bounds-put_mesh-end-3
 slice_bounds-put_mesh-end-3 c = points_work _ _ _ _ (mesh_fits _ _ _ _ _ (sym c.in_ok-judge.ensures))
 

@@ -1,29 +1,10 @@
-use native.Mathlib.Omega.{arith}
 use Rattle.lists.proofs.Tests.{failed, passed}
-use Rattle.vtk_reader.proofs.Judging.{looking_start, looking_on, looking_past, looking_off, looking_all, looking_some}
+use Rattle.vtk_reader.proofs.Judging.{looking_on, looking_past, looking_off, looking_all, looking_some}
 use Rattle.vtk_reader.proofs.judge_cells.Goals as goal
 use Rattle.vtk_reader.proofs.judge_cells.Goals.{else-not-four_below, then-not-four_below}
 
-pub loop-i-init : goal.loop-i-init
-loop-i-init c = looking_start _ _ _ _
-
-pub overflow_add-at : goal.overflow_add-at
-overflow_add-at c = omega (arith, c.loop-i-test.true, c.requires)
-
-pub word-requires : goal.word-requires
-word-requires c = omega (arith, c.loop-i-test.true, c.requires)
-
 pub returns-then-word-ne4 : goal.returns-then-word-ne4
 returns-then-word-ne4 c = looking_off _ _ _ _ _ _ c.loop-i.invariant _ c.loop-i-test.true c.word.ensures c.if-word-ne4.true
-
-pub overflow_add-at-in-loop-i : goal.overflow_add-at-in-loop-i
-overflow_add-at-in-loop-i c = omega (arith, c.loop-i-test.true, c.requires)
-
-pub overflow_add-at-in-loop-i-2 : goal.overflow_add-at-in-loop-i-2
-overflow_add-at-in-loop-i-2 c = omega (arith, c.loop-i-test.true, c.requires)
-
-pub four_below-requires : goal.four_below-requires
-four_below-requires c = omega (arith, c.loop-i-test.true, c.requires)
 
 pub loop-i-preserved : goal.loop-i-preserved
 loop-i-preserved c =

@@ -1,20 +1,7 @@
 use mathlib.Core.Path.{sym, ◌∙◌}
-use native.Mathlib.Omega.{arith}
 use Rattle.lists.proofs.Tests.{failed, passed}
 use Rattle.words.proofs.Turns.{below_by, below_all}
 use Rattle.words.proofs.cells_below.Goals as goal
-
-pub overflow_mul-stride : goal.overflow_mul-stride
-overflow_mul-stride c = omega (arith, c.requires.there _ c.loop-i-test.true)
-
-pub overflow_mul-stride-in-loop-i : goal.overflow_mul-stride-in-loop-i
-overflow_mul-stride-in-loop-i c = omega (arith, c.requires.there _ c.loop-i-test.true)
-
-pub overflow_add-at : goal.overflow_add-at
-overflow_add-at c = omega (arith, c.requires.there _ c.loop-i-test.true)
-
-pub four_below-requires : goal.four_below-requires
-four_below-requires c = c.requires.there _ c.loop-i-test.true
 
 pub returns-then-not-four_below : goal.returns-then-not-four_below
 returns-then-not-four_below c = sym (c.loop-i.invariant ∙ below_by _ _ _ _ _ _ _ c.loop-i-test.true (failed c.four_below.ensures c.if-not-four_below.true))

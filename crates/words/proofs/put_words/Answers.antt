@@ -1,15 +1,9 @@
 use mathlib.Core.Path.{refl}
-use Rattle.words.proofs.Turns.{writing_start, writing_on, writing_done}
+use Rattle.words.proofs.Turns.{writing_on, writing_done}
 use Rattle.words.proofs.put_words.Goals as goal
-
-pub loop-i-init : goal.loop-i-init
-loop-i-init c = writing_start _ _ _ _
 
 pub loop-i-preserved : goal.loop-i-preserved
 loop-i-preserved c = writing_on _ _ _ _ _ _ c.loop-i.invariant c.loop-i-test.true refl c.put_word.ensures
-
-pub shape_of-file : goal.shape_of-file
-shape_of-file c = c.loop-i.invariant.long
 
 pub returns : goal.returns
 returns c = writing_done _ _ _ _ _ _ c.loop-i.invariant c.loop-i-test.false
