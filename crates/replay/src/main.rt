@@ -92,8 +92,8 @@ fn answered(
     let cells = tape::table(tape, n.cells);
     let crossing = tape::byte_table(bytes, n.crossing);
     let probe = tape::byte_table(bytes, n.probe);
-    let step = tape::word(tape, at, 1);
-    match step {
+    // The numbers are the tape's, and stand in this one place.
+    match tape::word(tape, at, 1) {
         0 => planned(sf_plan(bounds, c, levels)),
         1 => told(sf_refine(bounds, c, levels, crossing, small)),
         2 => told(sf_grid(bounds, c, levels, crossing, first, second, third, long)),
@@ -124,8 +124,8 @@ fn digested(
     long: &mut [u64],
 ) -> u64 {
     let answer = answered(tape, bytes, at, first, second, third, small, long);
-    let d = tape::words(tape::words(tape::words(answer, first), second), third);
-    tape::longs(tape::bytes(d, small), long)
+    let d = tape::entries(tape::entries(tape::entries(answer, first), second), third);
+    tape::entries(tape::entries(d, small), long)
 }
 
 fn filled() -> [u32; ROOM] {
