@@ -30,7 +30,7 @@ use Rattle.file_steps.specs.declared.Loaded.{Loaded}
 use Rattle.file_steps.specs.declared.LoadError.{LoadError}
 use Rattle.file_steps.specs.declared.LoadError.TheVariants.{Refused, Short}
 use Rattle.std.specs.Prelude.{Result, Err}
-use Rattle.refusals.specs.Refusals.{as_number, as_refusal}
+use Rattle.refusals.specs.Refusals.{as_number, as_refusal, named}
 use Rattle.refusals.specs.declared.Refusal.{Refusal}
 use Rattle.refusals.specs.declared.Refusal.TheVariants.{Numbers}
 use Rattle.refusals.proofs.Refusals.{above_none}
@@ -130,14 +130,15 @@ work_fits b s w h c =
 
 module _ (rows : List Row) (b : List ℕ) (s : Blocks) (x y w : List ℕ) where
   -- refused by the file alone
-  pub refused : {why : Refusal} → lacks 9 rows ≡ true → lacks 13 rows ≡ true → as_number why ≡ first rows → Reads rows b s x y w (Err (Refused why)) x y w
-  refused {why} nine thirteen e =
+  pub refused : {why : Refusal} → named rows ≡ true → lacks 9 rows ≡ true → lacks 13 rows ≡ true → as_number why ≡ first rows → Reads rows b s x y w (Err (Refused why)) x y w
+  refused {why} causes nine thirteen e =
       let r : ℕ = as_number why in
       let d : r ≢ 0 = above_none why in
       let k : read_number rows b s x y w ≡ r = sym (stops rows _ e d) in
       let d9 : r ≢ 9 = λ q. first_lacks 9 rows (omega arith) nine (sym e ∙ q) in
       let d13 : r ≢ 13 = λ q. first_lacks 13 rows (omega arith) thirteen (sym e ∙ q) in
       record {
+        causes = causes;
         answer = rw k (sym (loaded_refused r s.p s.n why refl d9));
         points = rw k (sym (as_lent r _ x d));
         cells = rw k (sym (as_lent r _ y d));
@@ -145,27 +146,28 @@ module _ (rows : List Row) (b : List ℕ) (s : Blocks) (x y w : List ℕ) where
       }
 
   -- rows that give the number which others give, whatever follows
-  shift : (more : List Row) → ((T : List Row) → first (rows ++ T) ≡ first (more ++ T)) → {r : Result Loaded LoadError} {x' y' w' : List ℕ}
+  shift : (more : List Row) → named rows ≡ true → ((T : List Row) → first (rows ++ T) ≡ first (more ++ T)) → {r : Result Loaded LoadError} {x' y' w' : List ℕ}
       → Reads more b s x y w r x' y' w' → Reads rows b s x y w r x' y' w'
-  shift more h l =
+  shift more causes h l =
       let k : read_number rows b s x y w ≡ read_number more b s x y w = h (table_rows (length x) (length y) (length w) s.p s.n ++ number_rows b s) in
-      record { answer = rw k l.answer; points = rw k l.points; cells = rw k l.cells; work = rw k l.work }
+      record { causes = causes; answer = rw k l.answer; points = rw k l.points; cells = rw k l.cells; work = rw k l.work }
 
   -- what follows where it is not refused by the file alone, or by the first rows
-  pub after : proper rows ≡ true → first rows ≡ 0 → {r : Result Loaded LoadError} {x' y' w' : List ℕ} → Reads [] b s x y w r x' y' w' → Reads rows b s x y w r x' y' w'
-  after h z = shift [] (λ T. goes_on rows T h refl z)
+  pub after : proper rows ≡ true → named rows ≡ true → first rows ≡ 0 → {r : Result Loaded LoadError} {x' y' w' : List ℕ} → Reads [] b s x y w r x' y' w' → Reads rows b s x y w r x' y' w'
+  after h causes z = shift [] causes (λ T. goes_on rows T h refl z)
 
-pub behind : (rows more : List Row) (b : List ℕ) (s : Blocks) (x y w : List ℕ) → proper rows ≡ true → first rows ≡ 0 → {r : Result Loaded LoadError} {x' y' w' : List ℕ}
+pub behind : (rows more : List Row) (b : List ℕ) (s : Blocks) (x y w : List ℕ) → proper rows ≡ true → named (rows ++ more) ≡ true → first rows ≡ 0 → {r : Result Loaded LoadError} {x' y' w' : List ℕ}
     → Reads more b s x y w r x' y' w' → Reads (rows ++ more) b s x y w r x' y' w'
-behind rows more b s x y w h z = shift (rows ++ more) b s x y w more (λ T. ap first (append_assoc rows more T) ∙ goes_on rows (more ++ T) h refl z)
+behind rows more b s x y w h causes z = shift (rows ++ more) b s x y w more causes (λ T. ap first (append_assoc rows more T) ∙ goes_on rows (more ++ T) h refl z)
 
 module _ (b : List ℕ) (s : Blocks) (x y w : List ℕ) where
   pub short : first (table_rows (length x) (length y) (length w) s.p s.n) ≢ 0 → Reads [] b s x y w (Err (Short s.p s.n)) x y w
-  unfolding loaded_by
+  unfolding loaded_by named
   short d =
       let q : first (table_rows (length x) (length y) (length w) s.p s.n) ≡ 9 = short_nine (length x) (length y) (length w) s.p s.n d in
       let k : read_number [] b s x y w ≡ 9 = sym (stops (table_rows (length x) (length y) (length w) s.p s.n) _ (sym q) (λ z. omega arith)) in
       record {
+        causes = refl;
         answer = rw k refl;
         points = rw k (sym (as_lent 9 _ x (λ z. omega arith)));
         cells = rw k (sym (as_lent 9 _ y (λ z. omega arith)));
@@ -186,10 +188,11 @@ module _ (b : List ℕ) (s : Blocks) (x y w : List ℕ) where
     number = goes_on (table_rows (length x) (length y) (length w) s.p s.n) (number_rows b s) (rooms_proper (length x) (length y) (length w) s.p s.n) refl z
 
     pub wrong : {w' : List ℕ} {r : Bool} → r ≡ false → Told b s (take (2 * s.p) w) w' r → Reads [] b s x y w (Err (Refused Numbers)) x y (w' ++ drop (2 * s.p) w)
-    unfolding loaded_by as_refusal number_rows first
+    unfolding loaded_by as_refusal number_rows first named
     wrong f t =
         let k : read_number [] b s x y w ≡ 13 = number ∙ rw (sym t.right ∙ f) refl in
         record {
+          causes = refl;
           answer = rw k refl;
           points = rw k (sym (as_lent 13 _ x (λ q. omega arith)));
           cells = rw k (sym (as_lent 13 _ y (λ q. omega arith)));
@@ -198,11 +201,12 @@ module _ (b : List ℕ) (s : Blocks) (x y w : List ℕ) where
 
     pub done : {x' y' w' : List ℕ} {r : Bool} → r ≡ true → Told b s (take (2 * s.p) w) w' r → x' ≡ words_at s.big b s.points (length (take (3 * s.p) x))
         → y' ≡ cells_in b s → Reads [] b s x y w (read s.p s.n) (x' ++ drop (3 * s.p) x) (y' ++ drop (4 * s.n) y) (w' ++ drop (2 * s.p) w)
-    unfolding loaded_by number_rows first
+    unfolding loaded_by number_rows first named
     done {x'} f t ex ey =
         let k : read_number [] b s x y w ≡ 0 = number ∙ rw (sym t.right ∙ f) refl in
         let px : x' ≡ points_in b s = ex ∙ ap (words_at s.big b s.points) points_lent in
         record {
+          causes = refl;
           answer = rw k refl;
           points = rw (k, px) (sym (as_new [] _ x));
           cells = rw (k, ey) (sym (as_new [] _ y));

@@ -129,17 +129,15 @@ module _ (rows : List Row) (b : List ℕ) (s : Blocks) (x y w : List ℕ) where
   read_one = determined (λ z a i. (a.answer i, a.points i, a.cells i, a.work i))
 
   module _ {r : Result Loaded LoadError} {x' y' w' : List ℕ} (d : Reads rows b s x y w r x' y' w') where
-    -- rows that have the numbers of refusals
-    module _ (h : named rows ≡ true) where
-      pub read_number_lem : number_of r ≡ read_number rows b s x y w
-      unfolding named as_refusal table_rows room_rows number_rows
-      read_number_lem =
-          let more : named (table_rows (length x) (length y) (length w) s.p s.n ++ number_rows b s) ≡ true = refl in
-          ap number_of d.answer ∙ loaded_number (read_number rows b s x y w) s.p s.n (first_named (read_rows rows b s x y w) (named_both rows _ h more))
+    pub read_number_lem : number_of r ≡ read_number rows b s x y w
+    unfolding named as_refusal table_rows room_rows number_rows
+    read_number_lem =
+        let more : named (table_rows (length x) (length y) (length w) s.p s.n ++ number_rows b s) ≡ true = refl in
+        ap number_of d.answer ∙ loaded_number (read_number rows b s x y w) s.p s.n (first_named (read_rows rows b s x y w) (named_both rows _ d.causes more))
 
-      -- each refusal exactly when, in order
-      pub read_in_turn : (k : ℕ) → 0 < k → (number_of r ≡ k) ↔ InTurn k (read_rows rows b s x y w)
-      read_in_turn = in_turn (read_rows rows b s x y w) read_number_lem
+    -- each refusal exactly when, in order
+    pub read_in_turn : (k : ℕ) → 0 < k → (number_of r ≡ k) ↔ InTurn k (read_rows rows b s x y w)
+    read_in_turn = in_turn (read_rows rows b s x y w) read_number_lem
 
     -- nothing of a mesh is stored on a refusal
     pub read_refused : number_of r ≢ 0 → (x' ≡ x) × (y' ≡ y)

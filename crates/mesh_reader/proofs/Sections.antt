@@ -125,4 +125,4 @@ module _ (b : List ℕ) where
 
     pub loaded : {x y w : List ℕ} {r : Result Loaded LoadError} {x' y' w' : List ℕ} → Reads [] b s x y w r x' y' w' → ReadDone b x y w r x' y' w'
     loaded {x} {y} {w} {r} {x'} {y'} {w'} l =
-        after (file_rows b) b (blocks_of b) x y w file_proper z (subst (λ (k : Blocks). Reads [] b k x y w r x' y' w') e l)
+        after (file_rows b) b (blocks_of b) x y w file_proper file_named z (subst (λ (k : Blocks). Reads [] b k x y w r x' y' w') e l)

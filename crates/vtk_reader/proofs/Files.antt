@@ -44,6 +44,10 @@ module _ (b : List ℕ) (l : Layout) where
   unfolding proper body_rows shape_rows content_rows count_rows name_rows
   body_proper = refl
 
+  pub body_named : named_rows (body_rows b l) ≡ true
+  unfolding named_rows as_refusal body_rows shape_rows content_rows count_rows name_rows
+  body_named = refl
+
   pub body_nine : lacks 9 (body_rows b l) ≡ true
   unfolding lacks body_rows shape_rows content_rows count_rows name_rows
   body_nine = refl
@@ -82,11 +86,11 @@ module _ (b : List ℕ) (l : Layout) where
   -- the ways out of `load`
   module _ {x y w : List ℕ} where
     pub body_refused : {why : Refusal} → as_number why ≡ first (body_rows b l) → Reads (body_rows b l) b (blocks_of l) x y w (Err (Refused why)) x y w
-    body_refused = refused (body_rows b l) b (blocks_of l) x y w body_nine body_thirteen
+    body_refused = refused (body_rows b l) b (blocks_of l) x y w body_named body_nine body_thirteen
 
     pub body_loaded : first (body_rows b l) ≡ 0 → {r : Result Loaded LoadError} {x' y' w' : List ℕ} → Reads [] b (blocks_of l) x y w r x' y' w'
         → Reads (body_rows b l) b (blocks_of l) x y w r x' y' w'
-    body_loaded z = after (body_rows b l) b (blocks_of l) x y w body_proper z
+    body_loaded z = after (body_rows b l) b (blocks_of l) x y w body_proper body_named z
 
 -- ---- the layout
 
@@ -129,12 +133,12 @@ module _ {b x y w : List ℕ} {k : Result Layout Refusal} (e : located_of b ≡ 
 pub located : {b x y w : List ℕ} {l : Layout} {r : Result Loaded LoadError} {x' y' w' : List ℕ} → located_of b ≡ Ok l → Reads (body_rows b l) b (blocks_of l) x y w r x' y' w'
     → ReadDone b x y w r x' y' w'
 unfolding file_rows layout_of
-located {b} {x} {y} {w} {l} e d = by_layout e (behind (layout_rows (Ok l)) (body_rows b l) b (blocks_of l) x y w (layout_proper (Ok l)) (found_clear l) d)
+located {b} {x} {y} {w} {l} e d = by_layout e (behind (layout_rows (Ok l)) (body_rows b l) b (blocks_of l) x y w (layout_proper (Ok l)) (file_named (Ok l) b) (found_clear l) d)
 
 pub unlocated : {b x y w : List ℕ} {why : Refusal} → located_of b ≡ Err why → ReadDone b x y w (Err (Refused why)) x y w
 unlocated {b} {x} {y} {w} {why} e =
     by_layout e
-    (refused (file_rows (Err why) b) b (blocks_of (layout_of (Err why))) x y w (file_nine (Err why) b) (file_thirteen (Err why) b) (stopped_first why b (located_stops b why e)))
+    (refused (file_rows (Err why) b) b (blocks_of (layout_of (Err why))) x y w (file_named (Err why) b) (file_nine (Err why) b) (file_thirteen (Err why) b) (stopped_first why b (located_stops b why e)))
 
 -- a file whose layout stops is refused
 pub stopped_refuses : (b : List ℕ) (why : Refusal) → located_of b ≡ Err why → first (file_rows (located_of b) b) ≡ 0 → ⊥

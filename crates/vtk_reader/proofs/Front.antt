@@ -29,7 +29,7 @@ use Rattle.vtk_layout.proofs.Front.{Departs, first_departs, departs_stops}
 use Rattle.vtk_layout.proofs.Sound.{Behind, ended_behind, behind_ends}
 use Rattle.vtk_layout.proofs.Cut.{cell_count, Completed, cut_completed, completed_cut}
 use Rattle.vtk_reader.specs.Step.{blocks_of, layout_of, stopped, layout_rows, shape_rows, body_rows, file_rows, ReadDone}
-use Rattle.vtk_reader.proofs.Files.{file_named, unlocated}
+use Rattle.vtk_reader.proofs.Files.{unlocated}
 
 module _ (b x y w : List ℕ) {r : Result Loaded LoadError} {x' y' w' : List ℕ} (d : ReadDone b x y w r x' y' w') where
   -- where the layout is not found, its number is told
@@ -47,7 +47,7 @@ module _ (b x y w : List ℕ) {r : Result Loaded LoadError} {x' y' w' : List ℕ
     where
       found_first : (l : Layout) → located_of b ≡ Ok l → first (rest l) ≡ as_number k
       found_first l q =
-          subst (λ (j : Result Layout Refusal). read_number (file_rows j b) b (blocks_of (layout_of j)) x y w ≡ as_number k) q (sym (read_number_lem _ b _ x y w d (file_named (located_of b) b)) ∙ e)
+          subst (λ (j : Result Layout Refusal). read_number (file_rows j b) b (blocks_of (layout_of j)) x y w ≡ as_number k) q (sym (read_number_lem _ b _ x y w d) ∙ e)
 
       by_layout : (j : Result Layout Refusal) → located_of b ≡ j → located_of b ≡ Err k
       by_layout (Err m) q = q ∙ ap Err (sym (its_own m) ∙ ap as_refusal (sym (told m q) ∙ e) ∙ its_own k)

@@ -45,7 +45,7 @@ use Rattle.vtk_layout.proofs.There.{Standing, stands}
 use Rattle.vtk_writer.specs.Step.{vtk_bytes, WriteDone}
 use Rattle.vtk_writer.proofs.Writing.{length_led, length_file}
 use Rattle.vtk_reader.specs.Step.{blocks_of, leads_in, types_in, layout_of, stopped, layout_rows, shape_rows, body_rows, file_rows, ReadDone}
-use Rattle.vtk_reader.proofs.Files.{shape_proper, file_proper, file_named, laid_stands, led as led_all, typed, named, stopped_refuses}
+use Rattle.vtk_reader.proofs.Files.{shape_proper, file_proper, laid_stands, led as led_all, typed, named, stopped_refuses}
 use Rattle.vtk_reader.proofs.Cells.{led_is, block_words, cells_read, leads_right}
 
 -- ---- the file of a mesh, with any title
@@ -210,7 +210,7 @@ read_numbers = 0 ∷ 4 ∷ 8 ∷ 9 ∷ 11 ∷ 12 ∷ 13 ∷ 14 ∷ 15 ∷ []
 pub read_numbers_lem : (b x y w : List ℕ) {r : Result Loaded LoadError} {x' y' w' : List ℕ} → ReadDone b x y w r x' y' w' → among (number_of r) read_numbers ≡ true
 unfolding among within file_rows layout_rows body_rows shape_rows content_rows count_rows name_rows table_rows room_rows number_rows
 read_numbers_lem b x y w d =
-    ap (λ (k : ℕ). among k read_numbers) (read_number_lem (file_rows (located_of b) b) b (blocks_of (layout_of (located_of b))) x y w d (file_named (located_of b) b))
+    ap (λ (k : ℕ). among k read_numbers) (read_number_lem (file_rows (located_of b) b) b (blocks_of (layout_of (located_of b))) x y w d)
     ∙ first_within read_numbers _ refl refl
 
 -- ---- what is written reads back
