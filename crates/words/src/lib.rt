@@ -111,17 +111,16 @@ pub fn all_are(file: &[u8], at: usize, big: bool, n: usize, x: u32) -> bool
     all
 }
 
-// Stores a word at a place.
+// Stores a word at a place. The order of the bytes is asked before they are made, so that they are one store.
 pub fn put_word(file: &mut [u8], at: usize, big: bool, x: u32)
     requires { at + 4 ≤ length file.old }
     ensures { file.new ≡ sets file.old at (bytes4 big x) }
 {
-    let bytes = if big {
-        x.to_be_bytes()
-    } else {
-        x.to_le_bytes()
-    };
-    file[at..at + 4].copy_from_slice(&bytes);
+    if big {
+        file[at..at + 4].copy_from_slice(&x.to_be_bytes());
+        return;
+    }
+    file[at..at + 4].copy_from_slice(&x.to_le_bytes());
 }
 
 // Stores words from a place on.
