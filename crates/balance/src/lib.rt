@@ -117,6 +117,7 @@ fn split_row(s: &mut [u8], i: usize, n: usize, seen: &[u8])
 }
 
 // Balances row q of a level, by the level below.
+// `LevelAsked` is of the table that is written, row after row: no fact of one value.
 fn balance_row(s: &mut [u8], v: Level, q: usize)
     requires { LevelAsked s.old v × (q < v.ny * v.nz) }
     ensures { Swept s.old s.new (v.start + q * v.nx) v.nx (λ x. balanced_byte s.old v (q * v.nx + x)) }

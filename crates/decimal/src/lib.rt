@@ -57,6 +57,7 @@ pub fn put_digits(file: &mut [u8], at: usize, n: usize) -> usize
 }
 
 // How many digits n has.
+// Twenty digits are the most of 64 bits: a room of that size, since nothing is allocated.
 pub fn count_digits(n: usize) -> usize
     ensures { result ≡ length (digits n) }
 {

@@ -29,6 +29,7 @@ pub struct Blocks {
 }
 
 // Joins the vertices of the cell i.
+// The file and its blocks come apart: `CellsStand` is said of them where a reader knows less than all that stands in the file.
 fn join_cell(file: &[u8], s: Blocks, parent: &mut [u32], i: usize)
     requires { CellsStand file.now s × Cells (cells_in file.now s) (length parent.old) × Forest parent.old × (i < s.n) }
     ensures { JoinedCell (cells_in file.now s) [] parent.old parent.new i }

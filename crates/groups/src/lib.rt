@@ -81,6 +81,7 @@ fn note_lasts(cells: &[u32], crossing: &[u8], work: &mut [u32], n: usize)
 }
 
 // Finds the groups of the cells that are not crossed, from a work table that holds anything.
+// What is known of the work table changes from step to step, so it stands in the clauses and in no type.
 pub fn settle(cells: &[u32], crossing: &[u8], work: &mut [u32], n: usize)
     requires { Sized cells.now work.old n }
     ensures { Labelled cells.now crossing.now work.new n }

@@ -74,6 +74,7 @@ pub fn along(n: usize, k: usize) -> usize
 }
 
 // The level k levels down from the roots: it begins after the 1 + 8 + 64 + … octants to a root of those above it.
+// `Counts` bounds what a caller may ask for, other bounds at other callers: no fact of every `Roots`.
 pub fn level_at(d: Roots, k: usize) -> Level
     requires { Counts most_roots (roots_of d) × (k ≤ most_levels) }
     ensures { result ≡ level_at (roots_of d) k }
