@@ -111,6 +111,7 @@ fn bytes_for(p: usize, n: usize) -> usize
 
 // Writes the viewer's file of a mesh. Refused with 4, 5 or 8, and with 9 where `file` is shorter than the bytes needed, which it then
 // carries: both tables are then as lent. Answered with the bytes written: the first 2 entries a point of `work` are then zero.
+// Beside `write_mesh`: a function over both would take a file's bytes and what fills it as closures, with contracts longer than this body.
 pub fn write_vtk(
     points: &[u32],
     cells: &[u32],

@@ -1,4 +1,5 @@
-// Words of four bytes, the low byte first or the high one, in a file's bytes.
+// Words of four bytes, the low byte first or the high one, in a file's bytes. A file and the order of its bytes are given to each call: a
+// struct of both would be made anew for most calls, and be no plainer.
 #![tactic(auto)]
 
 ghost use Rattle.std.specs.Prelude.{◌≡◌, ℕ, ◌+◌, ◌*◌, ◌≤◌, ◌<◌, length, replicate};
