@@ -1,5 +1,5 @@
 -- What the machine holds of a signed number that is not too large: the number itself. Assumes nothing.
-use mathlib.Core.Path.{◌≡◌, sym, ap, ap₂, ◌∙◌, subst}
+use mathlib.Core.Path.{sym, ap, ap₂, ◌∙◌, subst}
 use Prim.Native.Nat.{ℕ, ◌+◌, ◌*◌, ◌^◌, ◌≤◌, ◌<◌}
 use native.Mathlib.Nat.{mul-le-mul}
 use native.Mathlib.Omega.{arith}
@@ -55,12 +55,3 @@ module _ {m k : ℕ} {x r y s : ℤ} (p : Held m x r) (q : Held k y s) where
     same = to_z-of_z w64 (r +ℤ s) (plus_fits h) ∙ ap₂ (λ (u v : ℤ). u +ℤ v) p.same q.same;
     size = omega (arith, abs_plus x y, p.size, q.size);
   }
-
--- of numbers that were read back
-pub minor_held : {m n : ℕ} {a b c d r : ℤ} → m < 2 ^ 63 → n < 2 ^ 63 → Small m a → Small m b → Small m c → Small m d
-    → Held n (back a *ℤ back b -ℤ back c *ℤ back d) r → Held n (a *ℤ b -ℤ c *ℤ d) (back r)
-minor_held {m} {n} {a} {b} {c} {d} {r} k l p q s t h =
-    let e : back a *ℤ back b -ℤ back c *ℤ back d ≡ a *ℤ b -ℤ c *ℤ d =
-    ap₂ (λ (u v : ℤ). u -ℤ v) (ap₂ (λ (u v : ℤ). u *ℤ v) (held k p).same (held k q).same) (ap₂ (λ (u v : ℤ). u *ℤ v) (held k s).same (held k t).same)
-    in
-    subst (λ (x : ℤ). Held n x (back r)) e (again l h)

@@ -1,3 +1,2 @@
--- Laws of parts of a tape and of digests.
-pub mod Parts
+-- Laws of digests.
 pub mod Digesting

@@ -5,11 +5,8 @@ use native.Mathlib.Omega.{arith}
 use lib.Dec.{eqb}
 use lib.ListN.{get_or}
 use Rattle.mesh.specs.Mesh.{cells_of}
-use Rattle.coverage.proofs.Summing.{grow_start, grow_turn, grow_over, grow_done, over_part, over_all, both_fit, room, no_room}
+use Rattle.coverage.proofs.Summing.{grow_turn, grow_over, grow_done, over_part, over_all, both_fit, room, no_room}
 use Rattle.coverage.proofs.sum_cells.Goals as goal
-
-pub loop-i-init : goal.loop-i-init
-loop-i-init c = (grow_start _ _ _ (omega arith), grow_start _ _ _ (omega arith))
 
 pub returns-in_err-all : goal.returns-in_err-all
 returns-in_err-all c =
