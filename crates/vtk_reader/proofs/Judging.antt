@@ -35,9 +35,6 @@ pub record Looking (b : List ℕ) (at n bound : ℕ) (named : Bool) (i : ℕ) : 
   pub leads : same (leads_in b n at) (replicate n 4) ≡ same (drop i (leads_in b n at)) (drop i (replicate n 4))
   pub names : all_below bound (cells_at true 5 b (at + 4) n) ≡ named && all_below bound (drop (4 * i) (cells_at true 5 b (at + 4) n))
 
-pub looking_start : (b : List ℕ) (at n bound : ℕ) → Looking b at n bound true 0
-looking_start b at n bound = record { leads = refl; names = refl }
-
 module _ (b : List ℕ) (at n bound i : ℕ) where
   leads_long : length (leads_in b n at) ≡ n
   unfolding leads_in
