@@ -4,7 +4,6 @@ use mathlib.Core.Logic.{◌⊎◌, inl, inr}
 use mathlib.Core.Bool.{Bool, true, false, cond, ◌&&◌}
 use mathlib.Core.List.{List, [], ◌∷◌}
 use Prim.Native.Nat.{ℕ, ◌+◌, ◌*◌, ◌-◌, ◌/◌, ◌≤◌, ◌<◌}
-use native.Mathlib.Nat.{mul-le-mul}
 use native.Mathlib.Omega.{arith}
 use borrow.Author.Tests.{lt-ltb, le-ltb}
 use lib.Dec.{ltb}
@@ -16,10 +15,6 @@ use Rattle.lists.proofs.Running.{length_run, sum_same, sum_flat, sum_add, sum_be
 use Rattle.space.specs.Space.{Axis, ax, ay, az, Pos, pos}
 use Rattle.lattice.specs.Lattice.{evens, odds, size, box_up, doubled, lattice_vertices, octahedron, axis_cells, centre_cells, lattice_cells}
 use Rattle.lattice.proofs.Octahedra.{there, complete_is}
-
--- a product of three numbers of at most 65
-pub small_product : (a b c : ℕ) → a ≤ 65 → b ≤ 65 → c ≤ 65 → (a * b ≤ 4225) × (a * b * c ≤ 274625)
-small_product a b c p q r = (mul-le-mul p q, mul-le-mul (mul-le-mul p q) r)
 
 -- ---- the length of a box
 

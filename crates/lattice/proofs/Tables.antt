@@ -2,8 +2,7 @@
 use mathlib.Core.Path.{◌≡◌, refl, sym, ap, ap₂, ◌∙◌, fun_ext}
 use mathlib.Core.Bool.{Bool, true, false, ◌&&◌}
 use mathlib.Core.List.{List, [], ◌∷◌, ◌++◌}
-use Prim.Native.Nat.{ℕ, ◌+◌, ◌*◌, ◌/◌, ◌≤◌, ◌<◌}
-use native.Mathlib.Nat.{mul-le-mul}
+use Prim.Native.Nat.{ℕ, ◌+◌, ◌/◌, ◌<◌}
 use native.Mathlib.Omega.{arith}
 use lib.Dec.{ltb}
 use lib.ListN.{length}
@@ -124,10 +123,3 @@ box_long g e f n m l = length_run l (layer_of g e n m) 0 ∙ sum_same l _ _ 0 (�
 
 pub room_box : (g : Axis → ℕ → ℕ) (e f n m l : ℕ) {o : List ℕ} {at : ℕ} → Room o at (box_of g e n m l) → Room o at (box_of g f n m l)
 room_box g e f n m l h = record { fits = omega (arith, h.fits, box_long g e f n m l) }
-
--- a place in a box is small
-pub small_slot : (j k n m : ℕ) → j ≤ 65 → k ≤ 65 → n ≤ 65 → m ≤ 65 → (k * n ≤ 4225) × ((j + k * n) * m ≤ 278850)
-small_slot j k n m hj hk hn hm =
-    let a : k * n ≤ 4225 = mul-le-mul hk hn in
-    let b : j + k * n ≤ 4290 = omega arith in
-    (a, mul-le-mul b hm)

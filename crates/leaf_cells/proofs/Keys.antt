@@ -1,5 +1,5 @@
 -- The keys of a leaf, from its number in the list. Assumes nothing.
-use mathlib.Core.Path.{◌≡◌, refl, sym, ap, ap₂, ◌∙◌, subst}
+use mathlib.Core.Path.{◌≡◌, refl, sym, ap, ap₂, ◌∙◌}
 use mathlib.Core.List.{List, [], ◌∷◌}
 use Prim.Native.Nat.{ℕ, zero, suc, ◌+◌, ◌-◌, ◌*◌, ◌%◌, ◌^◌, ◌≤◌, ◌<◌}
 use native.Mathlib.Omega.{arith}
@@ -14,7 +14,7 @@ use Rattle.octree_cells.proofs.Points.{drawn_corner}
 use Rattle.octree_cells.specs.Leaf.{IsLeaf}
 use Rattle.octree_cells.specs.Vertices.{leaf_points}
 use Rattle.lists.specs.Runs.{run, Storing}
-use Rattle.lists.proofs.Running.{loop_start, loop_next, loop_done}
+use Rattle.lists.proofs.Running.{loop_next, loop_done}
 use Rattle.vertex_keys.specs.Keys.{most_keys, key_of, stride}
 use Rattle.sides.specs.Parts.{Taken}
 use Rattle.leaves.specs.Parts.{level_in, place_in}
@@ -116,13 +116,7 @@ pub record Keying (w₀ : List ℕ) (list leaves : ℕ) (w : List ℕ) (n : ℕ)
   pub stored : Storing w₀ 0 (keys_from w₀ list leaves) w (9 * n) (run (leaves - n) (λ j. keys_in (get_or w₀ (list + j) 0)) n)
   pub behind : (j : ℕ) → list ≤ j → get_or w j 0 ≡ get_or w₀ j 0
 
-pub keying_start : (w : List ℕ) (list leaves : ℕ) → Keying w list leaves w 0
-keying_start w list leaves = record { left = omega arith; same = refl; stored = loop_start leaves (λ j. keys_in (get_or w (list + j) 0)) w 0; behind = λ j h. refl }
-
 module _ (w₀ : List ℕ) (list leaves : ℕ) (w : List ℕ) (n : ℕ) (k : Keying w₀ list leaves w n) where
-  pub keying_leaf : AllPlaced w₀ list leaves → n < leaves → Placed (get_or w (list + n) 0)
-  keying_leaf p h = subst Placed (sym (k.behind (list + n) (omega arith))) (p n h)
-
   pub keying_on : (w₁ : List ℕ) → n < leaves → 9 * leaves ≤ list → w₁ ≡ sets w (9 * n) (keys_in (get_or w (list + n) 0)) → Keying w₀ list leaves w₁ (n + 1)
   keying_on w₁ h f e =
       let z : ℕ = get_or w₀ (list + n) 0 in

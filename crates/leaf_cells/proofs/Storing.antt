@@ -10,7 +10,7 @@ use Rattle.space.specs.Space.{Pos}
 use Rattle.octree_cells.specs.Cells.{flat}
 use Rattle.octree_cells.specs.Leaf.{IsLeaf}
 use Rattle.lists.specs.Runs.{run, Stored, Storing, Room}
-use Rattle.lists.proofs.Running.{loop_start, loop_next, loop_room, loop_done, storing_length}
+use Rattle.lists.proofs.Running.{loop_next, loop_room, loop_done, storing_length}
 use Rattle.lists.proofs.Parts.{sets_whole}
 use Rattle.sides.specs.declared.Sides.{Sides}
 use Rattle.sides.specs.Parts.{Taken, LeafIn, sides_at, sides_of, cells_in}
@@ -63,9 +63,6 @@ module _ (s : List ℕ) (d : Roots) (w : List ℕ) (v list leaves : ℕ) where
     pub left : n ≤ leaves
     pub same : length o ≡ length o₀
     pub stored : Storing o₀ 0 (run leaves turn 0) o at (run (leaves - n) turn n)
-
-  pub emitting_start : (o : List ℕ) → Emitting o o 0 0
-  emitting_start o = record { left = omega arith; same = refl; stored = loop_start leaves turn o 0 }
 
   module _ (o₀ o : List ℕ) (n at : ℕ) (e : Emitting o₀ o n at) where
     pub emitting_on : (o₁ : List ℕ) (r : ℕ) → n < leaves → Stored o at (turn n) r o₁ → Emitting o₀ o₁ (n + 1) r

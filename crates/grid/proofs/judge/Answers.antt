@@ -1,16 +1,14 @@
-use mathlib.Core.Path.{◌≡◌, refl, sym, ap, subst, ◌∙◌}
+use mathlib.Core.Path.{◌≡◌, refl, ap, ◌∙◌}
 use mathlib.Core.Bool.{true}
 use mathlib.Core.List.{List}
-use Prim.Native.Nat.{ℕ, ◌≤◌}
-use native.Mathlib.Omega.{arith}
+use Prim.Native.Nat.{ℕ}
 use borrow.Author.Tests.{eq-eqb, ne_eqb}
-use lib.ListN.{length}
 use Rattle.refusals.specs.Rows.{first}
 use Rattle.lists.proofs.Tests.{failed, passed}
 use Rattle.lists.specs.Tests.{any}
 use Rattle.space.specs.Space.{Pos}
 use Rattle.octants.specs.Judge.{is_graded}
-use Rattle.octree.specs.Parts.{roots_of, Covers}
+use Rattle.octree.specs.Parts.{roots_of}
 use Rattle.octree.specs.declared.Roots.{Roots}
 use Rattle.plan.specs.Vertices.{dims_of}
 use Rattle.refusals.specs.Causes.{each_rows, answer_rows}
@@ -33,16 +31,6 @@ returns-then-not-all_at_most c = rw (eq-eqb _ _ c.if-split-p.false, failed c.all
 pub returns-then-p-eq0 : goal.returns-then-p-eq0
 unfolding split_rows each_rows answer_rows graded_rows first
 returns-then-p-eq0 c = rw (eq-eqb _ _ c.if-split-p.false, passed c.all_at_most.ensures c.if-not-all_at_most.false, flat_graded (dims_of c.args.p) _ _ c.if-p-eq0.true) refl
-
-pub is_graded-requires : goal.is_graded-requires
-is_graded-requires c =
-    let q = c.requires in
-    let p = c.args.p in
-    let f : 1 ≤ p.levels = omega (arith, c.if-p-eq0.false) in
-    subst (λ (d : Roots). Covers d (length c.args.split.now) × (1 ≤ d.levels)) (sym c.roots_of.ensures) (
-      record { roots = q.roots f; levels = q.levels_few; octants = c.if-split-p.false ∙ q.octants_are },
-      f,
-    )
 
 pub returns-then-not-is_graded : goal.returns-then-not-is_graded
 unfolding split_rows each_rows answer_rows graded_rows first

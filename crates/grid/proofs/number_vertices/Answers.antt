@@ -1,8 +1,6 @@
-use mathlib.Core.Path.{sym}
 use native.Mathlib.Omega.{arith}
-use lib.Seq.{length-take-le}
 use Rattle.leaf_cells.proofs.Keys.{all_placed}
-use Rattle.grid.proofs.Octrees.{standing, front_long, index_asks, ready}
+use Rattle.grid.proofs.Octrees.{standing, index_asks, ready}
 use Rattle.grid.proofs.number_vertices.Goals as goal
 
 pub leaf_keys-requires : goal.leaf_keys-requires
@@ -11,18 +9,6 @@ leaf_keys-requires c =
     let h = c.requires in
     let k = standing a.split.now a.d a.many a.work.now h _ c.list_leaves.ensures in
     record { leaves_in_bounds = (k.fits, omega arith); all_placed = all_placed _ _ h.taken _ _ _ k }
-
-pub slice_bounds-number-end-2 : goal.slice_bounds-number-end-2
-slice_bounds-number-end-2 c =
-    let a = c.args in
-    let k = standing a.split.now a.d a.many a.work.now c.requires _ c.list_leaves.ensures in
-    sym (length-take-le _ _ (omega (arith, k.fits, c.leaf_keys.auto.work)))
-
-pub slice_bounds-index-end-2 : goal.slice_bounds-index-end-2
-slice_bounds-index-end-2 c =
-    let a = c.args in
-    sym (front_long a.split.now a.d a.many a.work.now c.requires _ c.list_leaves.ensures _ _ _ c.leaf_keys.ensures
-    c.number-v.auto.keys c.number-v.ensures.1 c.number-v.ensures.0)
 
 pub index-requires : goal.index-requires
 index-requires c =

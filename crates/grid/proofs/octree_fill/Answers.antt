@@ -10,9 +10,6 @@ use Rattle.grid.proofs.WaysOut.{vertices_room, lent_full, length_triples, length
 use Rattle.grid.proofs.Octrees.{octree_vertex_count, octree_cell_count, octree_table, octree_triples, octree_points}
 use Rattle.grid.proofs.octree_fill.Goals as goal
 
-pub number_vertices-v-requires : goal.number_vertices-v-requires
-number_vertices-v-requires c = rw c.roots_of-d.ensures c.requires.numberable
-
 pub returns-then-lacks_vertices : goal.returns-then-lacks_vertices
 returns-then-lacks_vertices c =
     let a = c.args in

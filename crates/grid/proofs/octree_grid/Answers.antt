@@ -11,9 +11,6 @@ use Rattle.grid.proofs.WaysOut.{cells_room, no_cells, fill_whole}
 use Rattle.grid.proofs.Octrees.{octree_cell_count}
 use Rattle.grid.proofs.octree_grid.Goals as goal
 
-pub count_cells-n-requires : goal.count_cells-n-requires
-count_cells-n-requires c = rw c.roots_of.ensures c.requires.1
-
 pub lacks_cells-requires : goal.lacks_cells-requires
 lacks_cells-requires c =
     let k = rw c.roots_of.ensures at c.count_cells-n.ensures in

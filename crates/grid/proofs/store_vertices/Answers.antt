@@ -2,16 +2,13 @@ use mathlib.Core.Path.{refl, ap, ◌∙◌}
 use Prim.Native.Nat.{ℕ, ◌≤◌}
 use native.Mathlib.Omega.{arith}
 use lib.Seq.{length-take-le, sets}
-use Rattle.lists.proofs.Running.{loop_start, loop_next, loop_room, loop_done, storing_length}
+use Rattle.lists.proofs.Running.{loop_next, loop_room, loop_done, storing_length}
 use Rattle.space.specs.Space.{ax, ay, az, Pos}
 use Rattle.vertex_keys.specs.Keys.{triple_of}
 use Rattle.plan.specs.Vertices.{triple_at, point_at}
 use Rattle.grid.specs.Parts.{three_of}
 use Rattle.grid.proofs.Vertices.{key_at, key_room, three_same}
 use Rattle.grid.proofs.store_vertices.Goals as goal
-
-pub loop-key-init : goal.loop-key-init
-loop-key-init c = (loop_start _ _ _ _, loop_start _ _ _ _)
 
 pub overflow_cast-x : goal.overflow_cast-x
 overflow_cast-x c =
@@ -86,12 +83,6 @@ loop-key-preserved c =
             kept = c.store_all-in-loop-key.ensures ∙ ap (sets l.points l.here) (three_same (c.place-px.ensures ∙ ap (point_at p ax) ex) (c.place-py.ensures ∙ ap (point_at p ay) ey) (c.place-pz.ensures ∙ ap (point_at p az) ez));
           }),
     )
-
-pub shape_of-triples : goal.shape_of-triples
-shape_of-triples c = storing_length c.loop-key.invariant.0
-
-pub shape_of-points : goal.shape_of-points
-shape_of-points c = storing_length c.loop-key.invariant.1
 
 pub returns : goal.returns
 returns c =

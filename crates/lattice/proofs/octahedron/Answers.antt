@@ -28,11 +28,6 @@ store_all-requires-4 c =
     let a = c.args in
     omega (arith, c.requires.room.fits, octa_long a.row a.here a.o c.if-not-row.false c.if-not-here.false, c.store_all.auto.table, c.store_all-2.auto.table, c.store_all-3.auto.table)
 
-pub overflow_add-result : goal.overflow_add-result
-overflow_add-result c =
-    let a = c.args in
-    omega (arith, c.requires.room.fits, octa_long a.row a.here a.o c.if-not-row.false c.if-not-here.false, c.well_formed)
-
 pub returns : goal.returns
 returns c =
     let a = c.args in

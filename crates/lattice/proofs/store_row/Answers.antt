@@ -1,10 +1,7 @@
 use native.Mathlib.Omega.{arith}
-use Rattle.lists.proofs.Running.{loop_done, loop_start, storing_on, storing_length, storing_room, room_first}
+use Rattle.lists.proofs.Running.{loop_done, storing_on, storing_room, room_first}
 use Rattle.lattice.proofs.Stores.{row_x, row_y, row_z}
 use Rattle.lattice.proofs.store_row.Goals as goal
-
-pub loop-i-init : goal.loop-i-init
-loop-i-init c = loop_start _ _ _ _
 
 pub octahedron-here-requires : goal.octahedron-here-requires
 octahedron-here-requires c =
@@ -30,9 +27,6 @@ loop-i-preserved c =
     let s = storing_on c.loop-i.invariant (row_x r c.loop-i.i c.loop-i-test.true) c.octahedron-here.ensures in
     let q = storing_on s (row_y r c.loop-i.i c.loop-i-test.true) c.octahedron-here-in-loop-i.ensures in
     storing_on q (row_z r c.loop-i.i c.loop-i-test.true) c.octahedron-here-in-loop-i-2.ensures
-
-pub shape_of-cells : goal.shape_of-cells
-shape_of-cells c = storing_length c.loop-i.invariant
 
 pub returns : goal.returns
 returns c = loop_done _ _ _ _ c.loop-i.invariant c.loop-i-test.false

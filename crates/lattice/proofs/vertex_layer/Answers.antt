@@ -1,9 +1,6 @@
 use native.Mathlib.Omega.{arith}
-use Rattle.lists.proofs.Running.{loop_start, loop_next, loop_room, loop_done, storing_length}
+use Rattle.lists.proofs.Running.{loop_next, loop_room, loop_done}
 use Rattle.lattice.proofs.vertex_layer.Goals as goal
-
-pub loop-j-init : goal.loop-j-init
-loop-j-init c = (loop_start _ _ _ _, loop_start _ _ _ _)
 
 pub vertex_row-here-requires : goal.vertex_row-here-requires
 vertex_row-here-requires c =
@@ -16,12 +13,6 @@ loop-j-preserved c =
     let l = c.loop-j in
     let h = c.loop-j-test.true in
     (loop_next _ _ _ _ l.invariant.0 h c.vertex_row-here.ensures.triples, loop_next _ _ _ _ l.invariant.1 h c.vertex_row-here.ensures.points)
-
-pub shape_of-triples : goal.shape_of-triples
-shape_of-triples c = storing_length c.loop-j.invariant.0
-
-pub shape_of-points : goal.shape_of-points
-shape_of-points c = storing_length c.loop-j.invariant.1
 
 pub returns : goal.returns
 returns c = record { triples = loop_done _ _ _ _ c.loop-j.invariant.0 c.loop-j-test.false; points = loop_done _ _ _ _ c.loop-j.invariant.1 c.loop-j-test.false }

@@ -6,11 +6,6 @@ use Rattle.leaf_cells.specs.Parts.{low_in}
 use Rattle.leaf_cells.proofs.Keys.{low_few}
 use Rattle.leaf_cells.proofs.low_of.Goals as goal
 
-pub overflow_mul-result-2 : goal.overflow_mul-result-2
-overflow_mul-result-2 c =
-    let e : c.args.leaf % most_keys * (2 * c.args.h) ≡ low_in c.args.leaf = ap (λ (n : ℕ). c.args.leaf % most_keys * (2 * n)) c.requires.1 in
-    omega (arith, low_few _ c.requires.0)
-
 pub returns : goal.returns
 returns c =
     let e : c.args.leaf % most_keys * (2 * c.args.h) ≡ low_in c.args.leaf = ap (λ (n : ℕ). c.args.leaf % most_keys * (2 * n)) c.requires.1 in

@@ -1,10 +1,7 @@
 use native.Mathlib.Omega.{arith}
 use Rattle.leaf_cells.proofs.Leafwise.{listed}
-use Rattle.leaf_cells.proofs.Storing.{entry_at, emitting_start, emitting_on, emitting_room, emitting_done}
+use Rattle.leaf_cells.proofs.Storing.{entry_at, emitting_on, emitting_room, emitting_done}
 use Rattle.leaf_cells.proofs.store_cells.Goals as goal
-
-pub loop-leaf-init : goal.loop-leaf-init
-loop-leaf-init c = emitting_start _ _ _ _ _ _ _
 
 pub leaf_cells-at-requires : goal.leaf_cells-at-requires
 leaf_cells-at-requires c =
@@ -20,9 +17,6 @@ pub loop-leaf-preserved : goal.loop-leaf-preserved
 loop-leaf-preserved c =
     let e = entry_at c.args.keys.entries.now c.args.list c.args.leaves c.loop-leaf.leaf-index (omega arith) in
     emitting_on _ _ _ _ _ _ _ _ _ _ c.loop-leaf.invariant _ _ (omega arith) (rw e at c.leaf_cells-at.ensures)
-
-pub shape_of-out : goal.shape_of-out
-shape_of-out c = c.loop-leaf.invariant.same
 
 pub returns : goal.returns
 returns c = emitting_done _ _ _ _ _ _ _ _ _ _ c.loop-leaf.invariant c.requires.taken.0 c.requires.taken.1 c.requires.out_len (omega arith)

@@ -2,7 +2,6 @@ use mathlib.Core.Path.{◌≡◌, ◌∙◌, ap, subst}
 use mathlib.Core.Bool.{Bool, true, false}
 use Prim.Native.Nat.{ℕ, ◌*◌, ◌^◌, ◌≤◌, max}
 use native.Mathlib.Nat.{le_trans, mul-le-mul}
-use mir.Facts.{Fits-le, Fits-lit}
 use lib.Dec.{le→leb, lit≤}
 use lib.Ieee.{Float, in_float}
 use lib.Ieee.Scale.{finite}
@@ -36,9 +35,6 @@ returns-then-n-most c =
     let a = c.args in
     let d = dims_is a.s a.c a.lo a.hi _ _ c.ceiling.ensures c.max-n.ensures in
     simp (passed c.are_finite.ensures c.if-not-are_finite.false, above d c.if-n-most.true)
-
-pub overflow_mul-v : goal.overflow_mul-v
-overflow_mul-v c = Fits-le (units_few c.args.s _ c.requires c.if-n-most.false) (Fits-lit tt)
 
 pub int_to_float-v : goal.int_to_float-v
 unfolding in_float

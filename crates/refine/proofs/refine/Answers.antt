@@ -1,7 +1,6 @@
 use mathlib.Core.Path.{sym, ◌∙◌}
 use Rattle.std.proofs.lemmas.Result.{err_from_is_err_and}
 use Rattle.refusals.proofs.Refusals.{above_none}
-use lib.Seq.{length-take-le}
 use Rattle.refine.proofs.WaysOut.{refused_plan, asked, refused, short, done}
 use Rattle.refine.proofs.refine.Goals as goal
 
@@ -18,9 +17,6 @@ pub returns-then-split-n : goal.returns-then-split-n
 returns-then-split-n c =
     let s = c.args in
     short s.b s.c s.levels s.crossing.now s.split.now (sym c.new-a.ensures ∙ c.in-Ready.is) (sym c.in_ok-judge.ensures) c.if-split-n.true
-
-pub slice_bounds-refine_table-end-2 : goal.slice_bounds-refine_table-end-2
-slice_bounds-refine_table-end-2 c = sym (length-take-le _ _ c.if-split-n.false)
 
 pub refine_table-count-requires : goal.refine_table-count-requires
 refine_table-count-requires c =

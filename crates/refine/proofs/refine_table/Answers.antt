@@ -10,22 +10,12 @@ use Rattle.refine.proofs.refine_table.Goals as goal
 pub returns-then-d-eq0 : goal.returns-then-d-eq0
 returns-then-d-eq0 c = none_done c.requires c.if-d-eq0.true
 
-pub clear-requires : goal.clear-requires
-clear-requires c =
-    let p = c.requires in
-    let h = (c.copy_from_slice.ensures.after) in
-    let f : 1 ≤ c.args.d.levels = omega (arith, c.if-d-eq0.false) in
-    (covers_again (p.covers f) (ap length h), f, ap (all_at_most 1) h ∙ p.answers)
-
 pub balance-requires : goal.balance-requires
 balance-requires c =
     let p = c.requires in
     let h = c.clear.ensures in
     let f : 1 ≤ c.args.d.levels = omega (arith, c.if-d-eq0.false) in
     (covers_again (p.covers f) (c.clear.auto.s ∙ ap length (c.copy_from_slice.ensures.after)), f, ap (all_at_most 1) h ∙ table_bits _ _ _)
-
-pub ones-requires : goal.ones-requires
-ones-requires c = omega (arith, c.balance.auto.s, c.clear.auto.s, ap length (c.copy_from_slice.ensures.after), c.requires.few)
 
 pub returns : goal.returns
 returns c = table_done (c.copy_from_slice.ensures.after) c.clear.ensures c.balance.ensures c.ones.ensures
