@@ -46,47 +46,55 @@ fn show(
     println!(rt)
 }
 
-fn main(rt: HostRuntime) -> io::Result<()> {
-    println!(&rt; "c 1, L 1, x to 58 and to 59")?;
-    show(&rt, 0, 0x4268_0000, 0, 0, 0x3F80_0000, 1)?;
-    show(&rt, 0, 0x426C_0000, 0, 0, 0x3F80_0000, 1)?;
-    println!(&rt; "c 1, L 0, x to 60 and to 60.5")?;
-    show(&rt, 0, 0x4270_0000, 0, 0, 0x3F80_0000, 0)?;
-    show(&rt, 0, 0x4272_0000, 0, 0, 0x3F80_0000, 0)?;
-    println!(&rt; "c 1, L 5, box all 0 and x to 0.25; L 6")?;
-    show(&rt, 0, 0, 0, 0, 0x3F80_0000, 5)?;
-    show(&rt, 0, 0x3E80_0000, 0, 0, 0x3F80_0000, 5)?;
-    show(&rt, 0, 0, 0, 0, 0x3F80_0000, 6)?;
-    println!(&rt; "x at -7.3127151, c 0.3, L 1: the loosened bounds are rounded")?;
-    show(&rt, 0xC0EA_01C3, 0xC0EA_01C3, 0, 0, 0x3E99_999A, 1)?;
-    println!(&rt; "c 1.7, L 1")?;
-    show(&rt, 0, 0, 0, 0, 0x3FD9_999A, 1)?;
-    println!(&rt; "box at 1e8, c 1, L 1")?;
+// Boxes and cell sizes at the limits of the dimensions and of the octants, and where the loosened bounds are rounded.
+fn show_sizes(rt: &impl Print) -> io::Result<()> {
+    println!(rt; "c 1, L 1, x to 58 and to 59")?;
+    show(rt, 0, 0x4268_0000, 0, 0, 0x3F80_0000, 1)?;
+    show(rt, 0, 0x426C_0000, 0, 0, 0x3F80_0000, 1)?;
+    println!(rt; "c 1, L 0, x to 60 and to 60.5")?;
+    show(rt, 0, 0x4270_0000, 0, 0, 0x3F80_0000, 0)?;
+    show(rt, 0, 0x4272_0000, 0, 0, 0x3F80_0000, 0)?;
+    println!(rt; "c 1, L 5, box all 0 and x to 0.25; L 6")?;
+    show(rt, 0, 0, 0, 0, 0x3F80_0000, 5)?;
+    show(rt, 0, 0x3E80_0000, 0, 0, 0x3F80_0000, 5)?;
+    show(rt, 0, 0, 0, 0, 0x3F80_0000, 6)?;
+    println!(rt; "x at -7.3127151, c 0.3, L 1: the loosened bounds are rounded")?;
+    show(rt, 0xC0EA_01C3, 0xC0EA_01C3, 0, 0, 0x3E99_999A, 1)?;
+    println!(rt; "c 1.7, L 1")?;
+    show(rt, 0, 0, 0, 0, 0x3FD9_999A, 1)?;
+    println!(rt; "box at 1e8, c 1, L 1")?;
     show(
-        &rt,
+        rt,
         0x4CBE_BC20,
         0x4CBE_BC20,
         0x4CBE_BC20,
         0x4CBE_BC20,
         0x3F80_0000,
         1,
-    )?;
-    println!(&rt; "c 5 * 2^-149, L 2; c 2^-149, L 1 and L 0")?;
-    show(&rt, 0, 0, 0, 0, 5, 2)?;
-    show(&rt, 0, 0, 0, 0, 1, 1)?;
-    show(&rt, 0, 0, 0, 0, 1, 0)?;
-    println!(&rt;
+    )
+}
+
+// Cell sizes and bounds that are subnormal, near the greatest float, not finite or out of order.
+fn show_odd_floats(rt: &impl Print) -> io::Result<()> {
+    println!(rt; "c 5 * 2^-149, L 2; c 2^-149, L 1 and L 0")?;
+    show(rt, 0, 0, 0, 0, 5, 2)?;
+    show(rt, 0, 0, 0, 0, 1, 1)?;
+    show(rt, 0, 0, 0, 0, 1, 0)?;
+    println!(rt;
         "only the far corner is not finite: c 2^104, y one place below the greatest, L 0; two places, L 1; c 5.6e37, x to 1e36, L 1"
     )?;
-    show(&rt, 0, 0, 0x7F7F_FFFE, 0x7F7F_FFFE, 0x7380_0000, 0)?;
-    show(&rt, 0, 0, 0x7F7F_FFFD, 0x7F7F_FFFD, 0x7380_0000, 1)?;
-    show(&rt, 0, 0x7B40_97CE, 0, 0, 0x7E28_84D5, 1)?;
-    println!(&rt;
-        "x from 0 to -0; x from NaN; x to infinity; x from 1 to 0; c NaN and x from NaN"
-    )?;
-    show(&rt, 0, 0x8000_0000, 0, 0, 0x3F80_0000, 1)?;
-    show(&rt, 0x7FC0_0000, 0, 0, 0, 0x3F80_0000, 1)?;
-    show(&rt, 0, 0x7F80_0000, 0, 0, 0x3F80_0000, 1)?;
-    show(&rt, 0x3F80_0000, 0, 0, 0, 0x3F80_0000, 1)?;
-    show(&rt, 0x7FC0_0000, 0, 0, 0, 0x7FC0_0001, 1)
+    show(rt, 0, 0, 0x7F7F_FFFE, 0x7F7F_FFFE, 0x7380_0000, 0)?;
+    show(rt, 0, 0, 0x7F7F_FFFD, 0x7F7F_FFFD, 0x7380_0000, 1)?;
+    show(rt, 0, 0x7B40_97CE, 0, 0, 0x7E28_84D5, 1)?;
+    println!(rt; "x from 0 to -0; x from NaN; x to infinity; x from 1 to 0; c NaN and x from NaN")?;
+    show(rt, 0, 0x8000_0000, 0, 0, 0x3F80_0000, 1)?;
+    show(rt, 0x7FC0_0000, 0, 0, 0, 0x3F80_0000, 1)?;
+    show(rt, 0, 0x7F80_0000, 0, 0, 0x3F80_0000, 1)?;
+    show(rt, 0x3F80_0000, 0, 0, 0, 0x3F80_0000, 1)?;
+    show(rt, 0x7FC0_0000, 0, 0, 0, 0x7FC0_0001, 1)
+}
+
+fn main(rt: HostRuntime) -> io::Result<()> {
+    show_sizes(&rt)?;
+    show_odd_floats(&rt)
 }
