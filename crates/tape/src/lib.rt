@@ -160,13 +160,20 @@ impl Inputs {
     }
 }
 
+// So many entries from a place on, as far as they are there.
+fn entries_from<T>(tape: &[T], from: usize, count: usize) -> &[T]
+    requires { from ≤ length tape.now }
+    ensures { result.now ≡ take count (drop from tape.now) }
+{
+    let n = count.min(tape.len() - from);
+    &tape[from..from + n]
+}
+
 // A table of words on the tape, as far as it is there.
 pub fn table(tape: &[u32], part: Part) -> &[u32]
     ensures { result.now ≡ take part.count (drop part.from tape.now) }
 {
-    let from = part.from.min(tape.len());
-    let n = part.count.min(tape.len() - from);
-    &tape[from..from + n]
+    entries_from(tape, part.from.min(tape.len()), part.count)
 }
 
 // The byte where a word starts, at most the end.
@@ -181,6 +188,5 @@ pub fn byte_table(tape: &[u8], part: Part) -> &[u8]
     ensures { result.now ≡ take part.count (drop (4 * part.from) tape.now) }
 {
     let from = first_byte(part.from, tape.len());
-    let n = part.count.min(tape.len() - from);
-    &tape[from..from + n]
+    entries_from(tape, from, part.count)
 }
