@@ -1,7 +1,7 @@
 // Text and decimal counts in a file's bytes, read from the front: at the first byte that departs 14, and 11 where no byte is there.
 #![tactic(auto)]
 
-ghost use Rattle.std.specs.Prelude.{◌≡◌, ℕ, ◌+◌, ◌≤◌, ◌<◌, length};
+ghost use Rattle.std.specs.Prelude.{◌≡◌, ◌+◌, ◌≤◌, ◌<◌, length};
 ghost use Rattle.lists.specs.Runs.{Stored};
 ghost use Rattle.decimal.specs.Text.{text_at};
 ghost use Rattle.decimal.specs.Digits.{digits, number_at, more_at, count_at};

@@ -1,10 +1,10 @@
 // Where a file has a mesh, and the component numbers of its cells: written behind the cells, and compared with those that a file has.
 #![tactic(auto)]
 
-ghost use Rattle.std.specs.Prelude.{◌≡◌, [], ℕ, ◌+◌, ◌*◌, ◌≤◌, ◌<◌, length, take};
+ghost use Rattle.std.specs.Prelude.{◌≡◌, [], ◌+◌, ◌*◌, ◌≤◌, ◌<◌, length, take};
 ghost use Rattle.std.proofs.lemmas.List.Edits.{sets};
 ghost use Rattle.mesh.specs.Mesh.{cells_of, Cells};
-ghost use Rattle.lists.specs.Tables.{same, all_below};
+ghost use Rattle.lists.specs.Tables.{all_below};
 ghost use Rattle.words.specs.Words.{bytes_of};
 ghost use Rattle.links.specs.Parts.{Forest, JoinedCell, Joint};
 ghost use Rattle.components.specs.Parts.{Linked, Fits};

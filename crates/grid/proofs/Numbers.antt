@@ -25,7 +25,7 @@ use Rattle.vertex_keys.proofs.Packing.{key_small, key_order, key_triple, triple_
 use Rattle.sides.specs.Parts.{Taken, cells_in}
 use Rattle.octree.specs.Parts.{roots_of}
 use Rattle.octree.specs.declared.Roots.{Roots}
-use Rattle.grid.specs.Parts.{roots_in}
+use Rattle.plan.specs.Vertices.{roots_in}
 use Rattle.leaf_cells.proofs.Bounds.{far, near_packs, cells_near}
 use Rattle.plan.specs.declared.Plan.{Plan}
 use Rattle.lattice.specs.Lattice.{lattice_cells, lattice_vertices, LatticeVertex, index_of}

@@ -36,7 +36,8 @@ use Rattle.plan.specs.Step.{plan_of}
 use Rattle.plan.specs.Parts.{Planful}
 use Rattle.plan.proofs.Ready.{ready, ready_levels}
 use Rattle.plan.specs.declared.Bounds.{Bounds}
-use Rattle.grid.specs.Parts.{roots_in, Stocked}
+use Rattle.plan.specs.Vertices.{roots_in}
+use Rattle.grid.specs.Parts.{Stocked}
 use Rattle.grid.specs.declared.Gridded.{Gridded}
 use Rattle.plan.specs.declared.Refusal.{Refusal}
 use Rattle.plan.specs.declared.Planned.TheVariants as planned

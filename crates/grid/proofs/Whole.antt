@@ -26,7 +26,7 @@ use Rattle.plan.specs.declared.Refusal.{Refusal}
 use Rattle.plan.specs.declared.Planned.{Planned}
 use Rattle.plan.specs.declared.Planned.TheVariants as planned
 use Rattle.sides.specs.Parts.{Taken}
-use Rattle.grid.specs.Parts.{roots_in}
+use Rattle.plan.specs.Vertices.{roots_in}
 use Rattle.lattice.specs.Lattice.{lattice_vertices, LatticeVertex, index_of}
 use Rattle.lattice.proofs.Formulas.{cells_count, vertices_count}
 use Rattle.lattice.proofs.Named.{named, listed}

@@ -6,6 +6,7 @@ use Rattle.space.specs.Levels.{most_octants}
 use Rattle.vertex_keys.specs.Keys.{most_keys, triple_of}
 use Rattle.vertex_keys.specs.Parts.{Lookup}
 use Rattle.plan.specs.declared.Plan.{Plan}
+use Rattle.plan.specs.Vertices.{roots_in}
 use Rattle.octree.specs.Parts.{roots_of}
 use Rattle.octree.specs.declared.Roots.{Roots}
 use Rattle.sides.specs.Parts.{Taken}
@@ -15,10 +16,6 @@ use Rattle.grid.specs.Step.{cell_count, vertex_count, lacks_vertices, so_many, r
 use Rattle.grid.specs.declared.Gridded.{Gridded}
 use Rattle.grid.specs.declared.GridError.{GridError}
 use Rattle.grid.specs.declared.GridError.TheVariants.{NoVertices}
-
--- the roots of a plan
-abbrev pub roots_in : Plan → Roots
-roots_in p = record { nx = p.nx; ny = p.ny; nz = p.nz; levels = p.levels }
 
 -- three entries of a key's triple
 unfoldable pub three_of : (Axis → ℕ → ℕ) → ℕ → List ℕ

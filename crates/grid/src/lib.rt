@@ -9,9 +9,9 @@ ghost use Rattle.plan.specs.declared.Refusal.TheVariants.{Number};
 ghost use Rattle.grid.specs.Step.{lacks_cells, lacks_vertices, split_rows, Filled, GridDone};
 ghost use Rattle.sides.specs.Parts.{Taken};
 ghost use Rattle.space.specs.Levels.{most_octants};
-ghost use Rattle.grid.specs.Parts.{roots_in, key_table, KeysFit, Numberable, Ready, Fillable, Stocked};
+ghost use Rattle.grid.specs.Parts.{key_table, KeysFit, Numberable, Ready, Fillable, Stocked};
 ghost use Rattle.plan.specs.Parts.{Planful};
-ghost use Rattle.plan.specs.Vertices.{triple_at, point_at};
+ghost use Rattle.plan.specs.Vertices.{roots_in, triple_at, point_at};
 ghost use Rattle.std.proofs.lemmas.List.Edits.{sets};
 
 use octree::Roots;
@@ -59,18 +59,6 @@ fn lacks_vertices(v: usize, triples: usize, points: usize) -> bool
     triples / 3 < v || points / 3 < v
 }
 
-// The roots of a plan, as `refine` has them: plan and octree stand side by side, and neither can hold the conversion.
-fn roots_of(p: Plan) -> Roots
-    ensures { result ≡ roots_in p }
-{
-    Roots {
-        nx: p.nx as usize,
-        ny: p.ny as usize,
-        nz: p.nz as usize,
-        levels: p.levels as usize,
-    }
-}
-
 // What a split table is refused with: 5, 6, 7, or nothing.
 fn judge(split: &[u8], p: Plan) -> Result<(), Refusal>
     requires { Planful p }
@@ -85,7 +73,7 @@ fn judge(split: &[u8], p: Plan) -> Result<(), Refusal>
     if p.levels == 0 {
         return Ok(());
     }
-    if !balance::is_graded(split, roots_of(p)) {
+    if !balance::is_graded(split, p.roots()) {
         return Err(Refusal::Ungraded);
     }
     Ok(())
@@ -170,7 +158,7 @@ fn octree_fill(
     requires { Fillable p split.now many cells.old work.old }
     ensures { Stocked p split.now cells.old triples.old points.old work.old result cells.new triples.new points.new work.new }
 {
-    let d = roots_of(p);
+    let d = p.roots();
     let count = cells.len() / 4;
     let v = number_vertices(split, d, many, work);
     if lacks_vertices(v, triples.len(), points.len()) {
@@ -203,7 +191,7 @@ fn octree_grid(
     requires { (1 ≤ p.levels) × Taken split.now (roots_in p) × (length split.now ≤ most_octants) }
     ensures { Filled p split.now cells.old triples.old points.old work.old result cells.new triples.new points.new work.new }
 {
-    let n = leaves::count_cells(split, roots_of(p));
+    let n = leaves::count_cells(split, p.roots());
     let count = n.cells;
     if lacks_cells(count, cells.len(), work.len()) {
         return Err(GridError::NoCells(count as u64));

@@ -1,7 +1,7 @@
 // The leaf that covers an octant, and the vertices that finer leaves put beside one.
 #![tactic(auto)]
 
-ghost use Rattle.std.specs.Prelude.{◌≡◌, ◌+◌, ◌*◌, ◌/◌, ◌≤◌, ◌<◌, length};
+ghost use Rattle.std.specs.Prelude.{◌≡◌, ◌+◌, ◌*◌, ◌/◌, ◌≤◌, ◌<◌};
 ghost use Rattle.space.specs.Space.{pos};
 ghost use Rattle.space.specs.Levels.{most_levels};
 ghost use Rattle.octants.specs.Oct.{In, width as width_of};

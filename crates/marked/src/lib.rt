@@ -3,7 +3,6 @@
 #![tactic(auto)]
 
 ghost use Rattle.std.specs.Prelude.{◌≡◌, ◌-◌, ◌<◌, get_or, take, drop, replicate};
-ghost use Rattle.lists.specs.Tests.{bit};
 ghost use Rattle.mesh.specs.Mesh.{in_order, exchanged};
 ghost use Rattle.groups.specs.Parts.{Laid};
 ghost use Rattle.marked.specs.declared.KeepError.TheVariants.{Refused};

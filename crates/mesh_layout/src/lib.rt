@@ -1,7 +1,7 @@
 // The layout of the mesh file: three sections, each after the count of its entries, in words whose low byte is first.
 #![tactic(auto)]
 
-ghost use Rattle.std.specs.Prelude.{◌≡◌, ℕ, ◌+◌, ◌*◌, ◌/◌, ◌≤◌, ◌<◌, length};
+ghost use Rattle.std.specs.Prelude.{◌≡◌, ◌+◌, ◌*◌, ◌/◌, ◌≤◌, ◌<◌, length};
 ghost use Rattle.std.proofs.lemmas.List.Edits.{sets};
 ghost use Rattle.mesh_layout.specs.Layout.{section, count_at, whole_at, cut_at, end_of, blocks_of};
 ghost use Rattle.mesh_layout.specs.Parts.{Entries, Standing, Laid};

@@ -1,7 +1,6 @@
 // The step `write_mesh`: the mesh file of points and cells.
 #![tactic(auto)]
 
-ghost use Rattle.std.specs.Prelude.{◌≤◌};
 ghost use Rattle.file_steps.specs.Parts.{Storable, Placed};
 ghost use Rattle.mesh_layout.specs.Layout.{mesh_file};
 ghost use Rattle.mesh_writer.specs.Step.{bytes_for, WriteDone};

@@ -1,11 +1,11 @@
 // The split table of an octree: where its levels and octants stand, and whether an octant is split.
 #![tactic(auto)]
 
-ghost use Rattle.std.specs.Prelude.{◌≡◌, ◌+◌, ◌*◌, ◌^◌, ◌≤◌, ◌<◌, length};
+ghost use Rattle.std.specs.Prelude.{◌≡◌, ◌+◌, ◌*◌, ◌^◌, ◌≤◌, ◌<◌};
 ghost use Rattle.space.specs.Space.{pos};
 ghost use Rattle.octants.specs.Oct.{counts, within, hit};
 ghost use Rattle.space.specs.Levels.{most_levels, most_roots, most_along, Counts, size};
-ghost use Rattle.octree.specs.Parts.{roots_of, place_of, counts_of, tree_of, Covers, level_at, below_of, Held, in_level};
+ghost use Rattle.octree.specs.Parts.{roots_of, place_of, counts_of, tree_of, level_at, below_of, Held, in_level};
 
 pub use table::Octree;
 

@@ -4,9 +4,11 @@
 ghost use Rattle.std.specs.Prelude.{◌≡◌, ◌≤◌, ◌^◌};
 ghost use Rattle.space.specs.Space.{pos};
 ghost use Rattle.space.specs.Levels.{most_levels, off};
-ghost use Rattle.plan.specs.Vertices.{place_of};
+ghost use Rattle.plan.specs.Vertices.{place_of, roots_in};
 ghost use Rattle.plan.specs.Step.{all_finite, scale_of, stretch_of, axes_of, straight, straight_box, plan_of, fault_number, refusal_of};
 ghost use Rattle.plan.specs.Parts.{Small, Few};
+
+use octree::Roots;
 
 // A box: its lower and its upper bounds along x, y and z.
 #[repr(C)]
@@ -72,14 +74,14 @@ impl Fault {
 }
 
 // Why there is no plan, and why a step that makes one refuses: a number; 4, with what is at fault.
-// A number, 0 for none, and not the causes by name: a rule of the project.
+// A number, 0 for none, and not the causes by name: `refine` and `grid` hand it up from a `let .. else`, a rule of the project.
 #[derive(Clone, Copy, Debug, PartialEq, Eq)]
 pub enum Refusal {
     Number(u32),
     TooLarge(Fault),
 }
 
-// A plan or its refusal. An enum of its own and no `Result`: a rule of the project.
+// A plan or its refusal. An enum of its own and no `Result`: a rule of the project for the plan's answer.
 #[derive(Clone, Copy)]
 pub enum Planned {
     Ready(Plan),
@@ -250,5 +252,17 @@ impl Plan {
             return Planned::Refused(Refusal::Number(3));
         }
         over(scaled(c, levels), b, c, levels)
+    }
+
+    // Its roots, and the levels below them.
+    pub fn roots(self) -> Roots
+        ensures { result ≡ roots_in self }
+    {
+        Roots {
+            nx: self.nx as usize,
+            ny: self.ny as usize,
+            nz: self.nz as usize,
+            levels: self.levels as usize,
+        }
     }
 }

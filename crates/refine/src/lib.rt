@@ -86,13 +86,6 @@ pub fn refine(
     if split.len() < n {
         return Err(RefineError::Short(n as u64));
     }
-    // As `grid` has it: plan and octree stand side by side, and neither can hold the conversion.
-    let d = Roots {
-        nx: p.nx as usize,
-        ny: p.ny as usize,
-        nz: p.nz as usize,
-        levels: p.levels as usize,
-    };
-    let count = refine_table(&mut split[..n], crossing, d);
+    let count = refine_table(&mut split[..n], crossing, p.roots());
     Ok(count as u64)
 }

@@ -34,7 +34,7 @@ use Rattle.leaf_cells.proofs.Bounds.{far, near_low, cells_near}
 use Rattle.leaf_cells.proofs.Leafwise.{same_vertices}
 use Rattle.grid.specs.Grid.{grid_cells, grid_vertices, vertex_keys}
 use Rattle.grid.specs.Step.{GridDone, so_many, split_rows}
-use Rattle.grid.specs.Parts.{roots_in}
+use Rattle.plan.specs.Vertices.{roots_in}
 use Rattle.grid.specs.Whole.{three_at, corners_of, Whole}
 use Rattle.grid.specs.declared.Gridded.{Gridded}
 use Rattle.grid.specs.declared.GridError.{GridError}

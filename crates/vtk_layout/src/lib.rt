@@ -1,7 +1,7 @@
 // The layout of the viewer's file: legacy VTK, version 3.0, BINARY, UNSTRUCTURED_GRID. Read from the front, on any bytes.
 #![tactic(auto)]
 
-ghost use Rattle.std.specs.Prelude.{◌≡◌, ◌++◌, ℕ, ◌+◌, ◌*◌, ◌≤◌, ◌<◌, length};
+ghost use Rattle.std.specs.Prelude.{◌≡◌, ◌++◌, ◌+◌, ◌*◌, ◌≤◌, ◌<◌, length};
 ghost use Rattle.lists.specs.Runs.{Stored};
 ghost use Rattle.decimal.specs.Digits.{digits};
 ghost use Rattle.vtk_layout.specs.Layout.{title_at, block_at, counted_at, head_of, section_at, line_at, end_at, numbers_on, types_on, cells_on, points_on, located_of};

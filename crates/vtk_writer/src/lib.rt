@@ -1,7 +1,7 @@
 // The step `write_vtk`: the viewer's file of points and cells, a legacy VTK file with the component numbers as cell data.
 #![tactic(auto)]
 
-ghost use Rattle.std.specs.Prelude.{◌≡◌, true, ℕ, ◌+◌, ◌*◌, ◌/◌, ◌≤◌, ◌<◌, length};
+ghost use Rattle.std.specs.Prelude.{◌≡◌, true, ◌+◌, ◌*◌, ◌/◌, ◌≤◌, ◌<◌, length};
 ghost use Rattle.std.proofs.lemmas.List.Edits.{sets};
 ghost use Rattle.lists.specs.Runs.{Stored, Room};
 ghost use Rattle.words.specs.Words.{bytes_of};

@@ -35,11 +35,11 @@ returns-then-p-eq0 c = rw (eq-eqb _ _ c.if-split-p.false, passed c.all_at_most.e
 pub returns-then-not-is_graded : goal.returns-then-not-is_graded
 unfolding split_rows each_rows answer_rows graded_rows first
 returns-then-not-is_graded c =
-    let g = c.is_graded.ensures ∙ ap (λ (d : Roots). is_graded (roots_of d) d.levels c.args.split.now) c.roots_of.ensures in
+    let g = c.is_graded.ensures ∙ ap (λ (d : Roots). is_graded (roots_of d) d.levels c.args.split.now) c.roots.ensures in
     rw (eq-eqb _ _ c.if-split-p.false, passed c.all_at_most.ensures c.if-not-all_at_most.false, failed g c.if-not-is_graded.true) refl
 
 pub returns : goal.returns
 unfolding split_rows each_rows answer_rows graded_rows first
 returns c =
-    let g = c.is_graded.ensures ∙ ap (λ (d : Roots). is_graded (roots_of d) d.levels c.args.split.now) c.roots_of.ensures in
+    let g = c.is_graded.ensures ∙ ap (λ (d : Roots). is_graded (roots_of d) d.levels c.args.split.now) c.roots.ensures in
     rw (eq-eqb _ _ c.if-split-p.false, passed c.all_at_most.ensures c.if-not-all_at_most.false, passed g c.if-not-is_graded.false) refl

@@ -14,7 +14,7 @@ pub returns-then-lacks_vertices : goal.returns-then-lacks_vertices
 returns-then-lacks_vertices c =
     let a = c.args in
     let h = c.requires in
-    let k = rw c.roots_of-d.ensures at c.number_vertices-v.ensures in
+    let k = rw c.roots-d.ensures at c.number_vertices-v.ensures in
     let ev = octree_vertex_count a.p a.split.now h.some _ _ (short _ _ k.lookup) k.keys in
     let e4 = h.cells in
     let en : length a.cells.now / 4 ≡ cell_count a.p a.split.now = omega arith in
@@ -47,9 +47,9 @@ pub store_cells-requires : goal.store_cells-requires
 store_cells-requires c =
     let a = c.args in
     let h = c.requires in
-    let k = rw c.roots_of-d.ensures at c.number_vertices-v.ensures in
+    let k = rw c.roots-d.ensures at c.number_vertices-v.ensures in
     let m = h.numberable in
-    rw c.roots_of-d.ensures (record {
+    rw c.roots-d.ensures (record {
       taken = (m.taken, record { fits = omega (arith, m.room, c.number_vertices-v.auto.work); many = m.leaves; here = k.list });
       out_len = h.cells ∙ ap (λ (i : ℕ). 4 * i) (octree_cell_count a.p a.split.now h.some);
     })
@@ -58,8 +58,8 @@ pub returns : goal.returns
 returns c =
     let a = c.args in
     let h = c.requires in
-    let k = rw c.roots_of-d.ensures at c.number_vertices-v.ensures in
-    let sc = rw c.roots_of-d.ensures at c.store_cells.ensures in
+    let k = rw c.roots-d.ensures at c.number_vertices-v.ensures in
+    let sc = rw c.roots-d.ensures at c.store_cells.ensures in
     let ev = octree_vertex_count a.p a.split.now h.some _ _ (short _ _ k.lookup) k.keys in
     let e4 = h.cells in
     let en : length a.cells.now / 4 ≡ cell_count a.p a.split.now = omega arith in

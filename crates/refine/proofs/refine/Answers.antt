@@ -21,9 +21,10 @@ returns-then-split-n c =
 pub refine_table-count-requires : goal.refine_table-count-requires
 refine_table-count-requires c =
     let s = c.args in
-    asked s.b s.c s.levels s.crossing.now s.split.now (sym c.new-a.ensures ∙ c.in-Ready.is) (sym c.in_ok-judge.ensures) c.if-split-n.false
+    rw c.roots.ensures (asked s.b s.c s.levels s.crossing.now s.split.now (sym c.new-a.ensures ∙ c.in-Ready.is) (sym c.in_ok-judge.ensures) c.if-split-n.false)
 
 pub returns : goal.returns
 returns c =
     let s = c.args in
-    done s.b s.c s.levels s.crossing.now s.split.now (sym c.new-a.ensures ∙ c.in-Ready.is) (sym c.in_ok-judge.ensures) c.if-split-n.false c.refine_table-count.ensures
+    let k = rw c.roots.ensures at c.refine_table-count.ensures in
+    done s.b s.c s.levels s.crossing.now s.split.now (sym c.new-a.ensures ∙ c.in-Ready.is) (sym c.in_ok-judge.ensures) c.if-split-n.false k
