@@ -54,6 +54,7 @@ struct Edge {
 }
 
 // The cells over an edge: two where a finer vertex stands at its midpoint.
+// `Room` is of the table that is written and of what is stored next, here and below: no fact of one value.
 fn over(keys: Numbering, out: &mut [u32], at: usize, fine: bool, e: Edge) -> usize
     requires room { Room out.old at (over_numbers (rank_in keys.entries.now keys.count) fine e) }
     ensures { Stored out.old at (over_numbers (rank_in keys.entry.entries.now keys.entry.count) fine e) result out.new }

@@ -127,6 +127,7 @@ fn weigh(
 }
 
 // Weighs all cells, from a table of numbers that are all 0.
+// `Laid` is of lent tables and one that is written, here and in the steps that keep: no fact of one value.
 fn weigh_all(points: &[u32], cells: &[u32], work: &mut [u32], n: usize, least: f32) -> Counts
     requires { Laid points.now cells.now work.old n × (take n work.old ≡ replicate n 0) }
     ensures { Tallied points.now cells.now (drop n work.old) work.new n least result }
