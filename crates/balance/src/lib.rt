@@ -11,7 +11,7 @@ ghost use Rattle.octree.specs.Parts.{roots_of, counts_of, Covers, below_of, Stac
 ghost use Rattle.octree.specs.Sweep.{one, Swept};
 ghost use Rattle.balance.specs.Parts.{Merged, in_rows, LayersAsked, in_layers, Ends, Blank, touched_of, Seen, LevelAsked, balanced_byte, gives};
 
-use octree::{Level, Roots, below, level_at};
+use octree::{Level, Octree, Roots, below, level_at};
 
 // A marked entry stays so, and another is marked where b is 1.
 fn mark(a: u8, b: u8) -> u8
@@ -72,6 +72,7 @@ fn end_near(y: usize, n: usize) -> usize
 }
 
 // Marks the shell of row (y, z) of a level: what the level below has beside it.
+// `Stacked` is of the table that `balance` writes and of one of its levels: no fact of one value.
 fn shell(seen: &mut [u8], s: &[u8], v: Level, y: usize, z: usize)
     requires { Blank seen.old (2 * v.nx) × Stacked s.now v × (y < v.ny) × (z < v.nz) }
     ensures { Seen seen.new s.now (below_of v) v.nx y z }
@@ -192,10 +193,12 @@ fn level_unsteady(s: &[u8], v: Level) -> bool
 }
 
 // Whether a split table is an octree, and graded: that no octant is left that the balance would split.
-pub fn is_graded(s: &[u8], d: Roots) -> bool
-    requires { Covers d (length s.now) × (1 ≤ d.levels) }
-    ensures { result ≡ is_graded (roots_of d) d.levels s.now }
+pub fn is_graded(t: &Octree) -> bool
+    requires { 1 ≤ t.now.roots.levels }
+    ensures { let d = t.now.roots in result ≡ is_graded (roots_of d) d.levels t.now.split.now }
 {
+    let s = t.split;
+    let d = t.roots;
     for j in 0..d.levels - 1 {
         if level_unsteady(s, level_at(d, j)) {
             return false;

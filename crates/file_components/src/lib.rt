@@ -70,6 +70,7 @@ fn prepare(file: &[u8], s: Blocks, work: &mut [u32], n: usize) -> bool
 
 // Whether a file has the numbers of its cells by the first appearance of their groups. Where `one` tells that all points are in one group,
 // every number is 0.
+// A loop beside that of `components`, here and below: as one it would take a closure for the line that differs.
 fn compare(file: &[u8], s: Blocks, work: &mut [u32], n: usize, one: bool) -> bool
     requires { Stands file.now s × (s.m ≡ s.n) × Linked (cells_in file.now s) work.old n × (one ≡ all_below 1 (take n work.old)) }
     ensures { result ≡ right_numbers file.now s }

@@ -14,7 +14,7 @@ ghost use Rattle.plan.specs.Parts.{Planful};
 ghost use Rattle.plan.specs.Vertices.{roots_in, triple_at, point_at};
 ghost use Rattle.std.proofs.lemmas.List.Edits.{sets};
 
-use octree::Roots;
+use octree::{Octree, Roots};
 use plan::{Bounds, Plan, Planned};
 use refusals::Refusal;
 use vertex_keys::Numbering;
@@ -73,7 +73,11 @@ fn judge(split: &[u8], p: Plan) -> Result<(), Refusal>
     if p.levels == 0 {
         return Ok(());
     }
-    if !balance::is_graded(split, p.roots()) {
+    let octree = Octree {
+        split,
+        roots: p.roots(),
+    };
+    if !balance::is_graded(&octree) {
         return Err(Refusal::Ungraded);
     }
     Ok(())

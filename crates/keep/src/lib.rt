@@ -92,8 +92,8 @@ fn mark_crust(cells: &[u32], crossing: &[u8], work: &mut [u32], n: usize)
     }
 }
 
-// Marks the cells that Cover keeps, in the entries behind the first n, which had the groups. A loop of its own: this mark is read from the
-// table that is written.
+// Marks the cells that Cover keeps, in the entries behind the first n, which had the groups. A loop of its own: of
+// a closure that reads the table a clause would have to say that the front of the table stays as it is.
 fn mark_cover(cells: &[u32], crossing: &[u8], probe: &[u8], work: &mut [u32], n: usize)
     requires { CoverAsked cells.now crossing.now probe.now work.old n }
     ensures { MarksOf (cover_mark cells.now crossing.now probe.now (cells_of cells.now)) cells.now work.new n }

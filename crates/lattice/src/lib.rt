@@ -25,6 +25,7 @@ fn times(a: usize, b: usize, c: usize) -> usize
 }
 
 // How many cells and vertices a lattice of these dimensions has.
+// `Dims` is what a plan of no levels keeps, and three functions ask it of three numbers: a struct of them would be made of the plan at each.
 pub fn count(nx: usize, ny: usize, nz: usize) -> Counts
     requires { Dims nx ny nz }
     ensures { Counted (pos nx ny nz) result }

@@ -42,6 +42,7 @@ fn store_nine(work: &mut [u64], at: usize, k: u64, u: u64, v: u64, w: u64)
 }
 
 // Half the width of a listed leaf.
+// A leaf is the number that stands in the lent table, so `Placed` is said of it here and below, and of all of them by `AllPlaced`.
 fn half_of(leaf: u64) -> u64
     requires { Placed leaf }
     ensures { (result ≡ 2 ^ level_in leaf) × (result ≤ 32) }

@@ -76,7 +76,8 @@ pub fn judge_names(points: usize, cells: &[u32]) -> Result<(), Refusal>
     Ok(())
 }
 
-// What a mesh is refused with, as `judge_sizes` and then `judge_names` have it: 4, 5, 8, or nothing.
+// What a mesh is refused with, as `judge_sizes` and then `judge_names` have it: 4, 5, 8, or nothing. Points and cells come apart, here and
+// in every step, as C lends them.
 pub fn judge(points: usize, cells: &[u32], room: usize, a: usize, b: usize) -> Result<(), Refusal>
     requires { (a ≤ 16) × (b ≤ 2) }
     ensures { number_in result ≡ first (mesh_rows points cells.now room a b) }

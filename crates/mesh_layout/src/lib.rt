@@ -9,6 +9,7 @@ ghost use Rattle.mesh_layout.specs.Parts.{Entries, Standing, Laid};
 use file_components::Blocks;
 
 // Stores a section of entries of `size` words.
+// `Entries` bounds a divisor, here and below: as a const parameter it would be the same clause of each instance.
 pub fn put_section(table: &[u32], size: usize, file: &mut [u8], at: usize)
     requires { Entries size × (at + 4 + 4 * length table.now ≤ length file.old) × (length table.now / size < 4294967296) }
     ensures { file.new ≡ sets file.old at (section size table.now) }

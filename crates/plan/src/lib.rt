@@ -74,7 +74,7 @@ impl Fault {
 }
 
 // Why there is no plan, and why a step that makes one refuses: a number; 4, with what is at fault.
-// A number, 0 for none, and not the causes by name: `refine` and `grid` hand it up from a `let .. else`, a rule of the project.
+// A number and not a cause by name: `Planned::refusal` answers 0 where the plan is ready (`plan/Step.refusal_of`).
 #[derive(Clone, Copy, Debug, PartialEq, Eq)]
 pub enum Refusal {
     Number(u32),

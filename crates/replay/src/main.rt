@@ -73,7 +73,8 @@ fn covered(a: CoveredAnswer) -> u64 {
 }
 
 // Calls the step of a call and takes the digest of its answer: the first table of bytes on the tape is what the step calls crossing, split,
-// file or marks, and tables are written in the order of the C function, bytes and long words apart.
+// file or marks, and tables are written in the order of the C function, bytes and long words apart. Tables come one by one, as the steps take
+// them.
 fn answered(
     tape: &[u32],
     bytes: &[u8],

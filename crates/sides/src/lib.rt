@@ -69,7 +69,8 @@ struct Spot {
     w: usize,
 }
 
-// Whether the octant at u along an axis, v along the next and w along the one after it is there and split.
+// Whether the octant at u along an axis, v along the next and w along the one after it is there and split. `Held` is of the table and one of
+// its levels, and a leaf is asked beside two of them.
 fn split_in(split: &[u8], level: Level, axis: Axis, u: usize, v: usize, w: usize) -> bool
     requires { Held split.now level }
     ensures { result ≡ split_in split.now level (axis_of axis) u v w }
@@ -198,7 +199,8 @@ fn around_of(d: Roots, m: usize) -> Around
     }
 }
 
-// The six sides of a leaf.
+// The six sides of a leaf. The table and its roots come apart, here and in what lists and stores leaves: a clause names each of the two three
+// to five times, and of one struct each name would be twice as long.
 pub fn sides_at(split: &[u8], d: Roots, o: Octant) -> Sides
     requires { Taken split.now d × LeafIn split.now d o }
     ensures { result ≡ sides_of split.now d o }

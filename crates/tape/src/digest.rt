@@ -9,7 +9,7 @@ pub fn number(digest: u64, n: u64) -> u64
     ((digest % 4_294_967_291) * 2_654_435_761 + n % 4_294_967_291) % 4_294_967_291
 }
 
-// An entry of a table that is digested: a byte, a word, a long word. Its number is itself.
+// An entry of a table that is digested: a byte, a word, a long word. Its number is itself; of `Into<u64>` a clause could not name it.
 pub trait Entry: Copy {
     ghost itself: { Self → ℕ };
 

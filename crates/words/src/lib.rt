@@ -42,6 +42,7 @@ pub fn get_words(file: &[u8], at: usize, big: bool, table: &mut [u32])
 }
 
 // Reads n cells from a place on, each `stride` words behind the one before it.
+// `CellsThere` is of the file and of what is read next, here and below: no fact of one value.
 fn get_apart(file: &[u8], at: usize, stride: usize, big: bool, n: usize, cells: &mut [u32])
     requires { CellsThere stride file.now at n × (length cells.old ≡ 4 * n) }
     ensures { cells.new ≡ cells_at big stride file.now at n }

@@ -26,23 +26,23 @@ loop-j-init c = refl
 
 pub level_unsteady-requires : goal.level_unsteady-requires
 level_unsteady-requires c =
-    let d = roots_of c.args.d in
-    let p = c.requires.0 in
+    let d = roots_of c.args.t.now.roots in
+    let p = c.args.t.now.covers in
     let l = c.loop-j in
     level_asked d l.j c.level_at.ensures p.roots (omega (arith, p.levels, c.loop-j-test.true))
-    (omega (arith, p.octants, off_le d (suc (suc l.j)) c.args.d.levels (omega (arith, c.loop-j-test.true))))
+    (omega (arith, p.octants, off_le d (suc (suc l.j)) c.args.t.now.roots.levels (omega (arith, c.loop-j-test.true))))
 
 pub returns-then-level_unsteady : goal.returns-then-level_unsteady
 returns-then-level_unsteady c =
-    let a = c.args in
+    let a = c.args.t.now in
     let l = c.loop-j in
-    graded_not (roots_of a.d) a.d.levels l.j a.s.now c.loop-j-test.true (sym (told c.args.d c.args.s.now c.loop-j.j c.level_at.ensures c.level_unsteady.ensures) ∙ c.if-level_unsteady.true)
+    graded_not (roots_of a.roots) a.roots.levels l.j a.split.now c.loop-j-test.true (sym (told c.args.t.now.roots c.args.t.now.split.now c.loop-j.j c.level_at.ensures c.level_unsteady.ensures) ∙ c.if-level_unsteady.true)
 
 pub loop-j-preserved : goal.loop-j-preserved
-loop-j-preserved c = any_more _ _ c.loop-j.invariant (sym (told c.args.d c.args.s.now c.loop-j.j c.level_at.ensures c.level_unsteady.ensures) ∙ c.if-level_unsteady.false)
+loop-j-preserved c = any_more _ _ c.loop-j.invariant (sym (told c.args.t.now.roots c.args.t.now.split.now c.loop-j.j c.level_at.ensures c.level_unsteady.ensures) ∙ c.if-level_unsteady.false)
 
 pub returns : goal.returns
 returns c =
-    let a = c.args in
+    let a = c.args.t.now in
     let l = c.loop-j in
-    graded_all (roots_of a.d) a.d.levels l.j a.s.now l.auto.j-end c.loop-j-test.false l.invariant
+    graded_all (roots_of a.roots) a.roots.levels l.j a.split.now l.auto.j-end c.loop-j-test.false l.invariant
