@@ -39,7 +39,7 @@ struct Sums {
     all: u64,
 }
 
-// A vector by its signed numbers.
+// A vector by its signed numbers. Beside `volume::Point`: these are whole numbers, whose bounds stand in each clause, those floats, which round.
 #[derive(Clone, Copy)]
 struct Vector {
     x: i64,

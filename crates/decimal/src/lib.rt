@@ -16,6 +16,7 @@ pub struct Counted {
 }
 
 // Passes over a text, and answers the place after it.
+// q is counted on with the bytes that are there, since at + the text's length may not fit.
 pub fn text(file: &[u8], at: usize, text: &[u8]) -> Result<usize, Refusal>
     ensures { result ≡ text_at text.now file.now at }
 {
@@ -43,6 +44,7 @@ pub fn put_text(file: &mut [u8], at: usize, text: &[u8]) -> usize
 }
 
 // Stores the digits of n, and answers the place after them.
+// By hand, into a lent table: nothing is allocated.
 pub fn put_digits(file: &mut [u8], at: usize, n: usize) -> usize
     requires { at + length (digits n) ≤ length file.old }
     ensures { Stored file.old at (digits n) result file.new }

@@ -124,6 +124,7 @@ fn halves(out: &mut [u32], at: usize, c: u32, p: u32, q: u32, r: u32, s: u32) ->
 }
 
 // The same from corner number n of the face on.
+// n is how many times the face is turned, a number.
 fn turned(out: &mut [u32], at: usize, n: u64, c: u32, p: u32, q: u32, r: u32, s: u32) -> usize
     requires n_bound { n ≤ 3 }
     requires at_in_bounds { at + 8 ≤ length out.old }

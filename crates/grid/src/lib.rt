@@ -115,6 +115,7 @@ fn lattice_grid(
 }
 
 // The first v keys as triples and as points.
+// The place is counted on beside the keys: no second index to the same table.
 fn store_vertices(keys: &[u64], v: usize, triples: &mut [u32], points: &mut [u32], p: Plan)
     requires { KeysFit keys.now v triples.old points.old }
     ensures { (triples.new ≡ sets triples.old 0 (key_table triple_at v keys.now)) × (points.new ≡ sets points.old 0 (key_table (point_at p) v keys.now)) }

@@ -207,7 +207,8 @@ pub fn store_cells(cells: &mut [u32], nx: u32, ny: u32, nz: u32)
 }
 
 // The vertices of row j of layer k, n along x: e is 0 for the even ones and 1 for the odd ones.
-// `BothRoom` is of two tables that are written and of what is stored next, here and below: no fact of one value.
+// `BothRoom` is of two tables that are written and of what is stored next, here and below: no fact of one value. The two, the place in them and
+// the plan come apart: a struct that lends the tables on would be made anew for each row. The place is handed on, so it is counted.
 fn vertex_row(
     triples: &mut [u32],
     points: &mut [u32],

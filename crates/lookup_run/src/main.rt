@@ -79,6 +79,7 @@ fn told(c: Covered) -> u64 {
 }
 
 // Whether the question at a place is answered as on the tape.
+// `finer` is what the tape says of a whole octree: which of the two is asked.
 fn agrees(tape: &[u32], at: usize, finer: bool, s: &[u8], d: Roots) -> bool {
     let o = asked_at(tape, at);
     let answer = tape::word(tape, at, 0) as u64;

@@ -161,6 +161,7 @@ fn place_of(work: &[u32], v: usize) -> u32
 }
 
 // A cell in the order that its entry says.
+// The code is the number that stands in the lent table.
 fn order(code: u32, cell: Cell) -> Cell
     ensures { result ≡ ordered code cell }
 {

@@ -20,6 +20,7 @@ pub struct Told {
 }
 
 // The mark of a cell with this verdict.
+// A byte of the table that C reads.
 fn mark_of(verdict: Verdict) -> u8
     ensures { result ≡ verdict_mark verdict }
 {

@@ -1,4 +1,4 @@
-// An octree as it is read: a split table over its roots. What writes the table takes the two apart.
+// An octree as it is read: a split table over its roots. What writes the table, and what lists leaves, takes the two apart.
 ghost use Rattle.std.specs.Prelude.{length};
 ghost use Rattle.octree.specs.Parts.{Covers};
 

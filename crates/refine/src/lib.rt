@@ -66,8 +66,8 @@ fn refine_table(split: &mut [u8], crossing: &[u8], d: Roots) -> usize
 }
 
 // Refines the octree of a box where octants are crossed, and grades it. Refused with 1 to 6, the 4 carrying what the plan's does, and
-// with 9 where `split` is shorter than the octants, which it then carries: `split` is then as lent. Answered with how many octants are split: `split` begins with their
-// bytes, and is as lent past them.
+// with 9 where `split` is shorter than the octants, which it then carries: `split` is then as lent. Answered with how many octants are
+// split: `split` begins with their bytes, and is as lent past them.
 pub fn refine(
     b: Bounds,
     c: f32,

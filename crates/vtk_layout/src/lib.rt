@@ -42,6 +42,7 @@ pub struct Layout {
 }
 
 // Passes over a title of at most 255 bytes and its line feed.
+// q is counted on with the bytes that are there, since at + 255 may not fit.
 fn title(file: &[u8], at: usize) -> Result<usize, Refusal>
     ensures { result ≡ title_at 255 file.now at }
 {
