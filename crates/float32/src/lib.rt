@@ -23,7 +23,11 @@ pub fn to_f32(bits: u32) -> f32
 pub fn from_f32(x: f32) -> u32
     ensures { result ≡ to_bits binary32 x }
 {
-    if x != x { 0x7FC0_0000 } else { f32::to_bits(x) }
+    if x.is_nan() {
+        0x7FC0_0000
+    } else {
+        f32::to_bits(x)
+    }
 }
 
 pub fn is_finite(x: f32) -> bool
