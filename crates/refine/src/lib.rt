@@ -30,6 +30,16 @@ impl From<Refusal> for RefineError {
     }
 }
 
+// The bytes of one table into another. A loop: `copy_from_slice` would have the archive ask for C's `memmove`.
+fn copy(to: &mut [u8], from: &[u8])
+    requires { length to.old ≡ length from.now }
+    ensures { to.new ≡ from.now }
+{
+    for (i, entry) in to.iter_mut().enumerate() {
+        *entry = from[i];
+    }
+}
+
 // The sum of the bytes of a table: the number of ones where they are 0 or 1.
 fn ones(s: &[u8]) -> usize
     requires { length s.now ≤ most_octants }
@@ -59,7 +69,7 @@ fn refine_table(split: &mut [u8], crossing: &[u8], d: Roots) -> usize
     if d.levels == 0 {
         return 0;
     }
-    split.copy_from_slice(crossing);
+    copy(split, crossing);
     answers::clear(split, d);
     balance::balance(split, d);
     ones(split)

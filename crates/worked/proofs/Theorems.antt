@@ -30,4 +30,4 @@ unfolding Says table of_bits add sub mul div neg lt of_int ceil_to all_finite sc
 worked =
     row refl (row refl (row (grid_fours (pos 8 8 8) []) (row refl (row refl (row (grid_fours (pos 9 9 9) []) (row refl (row none_split (row octree_six
     (row (grid_six 1 six none (omega arith)) (row refl (row root_and_child_lem (row child_alone_lem
-    (row refl (row refl (row refl (row refl (row refl (row refl (row refl (row refl (row refl (row refl (row refl done)))))))))))))))))))))))
+    (row refl (row refl (row refl (row refl (row refl (row (refl, refl) (row refl (row (refl, refl) (row refl (row refl (row refl (row refl (row refl done)))))))))))))))))))))))))

@@ -2,7 +2,7 @@
 use Rattle.std.specs.Prelude.{◌≡◌, true, List, [], ◌∷◌, ℕ, ◌+◌, length, get_or, set, take, replicate}
 use Rattle.float32.specs.Operations.{f32}
 use Rattle.space.specs.Levels.{depth}
-use Rattle.plan.specs.Step.{plan_of}
+use Rattle.plan.specs.Step.{plan_of, number_of, fault_of}
 use Rattle.space.specs.Space.{Pos, pos}
 use Rattle.grid.specs.Grid.{grid_cells, grid_vertices}
 use Rattle.tiling.specs.Volume.{sum_six}
@@ -57,6 +57,8 @@ Splits s ones byte = (total s ≡ ones) × (get_or s (slot six (pos 1 1 1)) 0 �
 pub data Row : Type 0 where
   -- the plan of the cube from 0 to x, with the cell size c and these levels
   planned : (x c levels : ℕ) → Planned → Row
+  -- the number of its refusal, and what a 4 names
+  told : (x c levels number fault : ℕ) → Row
   -- the grid of these levels over d, with a split table: how many cells and vertices it has
   gridded : (levels : ℕ) (d : Pos) (split : List ℕ) (cells vertices : ℕ) → Row
   -- the lattice over d: how many vertices and cells it has, and its first cell
@@ -78,6 +80,7 @@ pub data Row : Type 0 where
 
 unfoldable pub Says : Row → Type 0
 Says (planned x c levels answer) = plan_of (cube x) (f32 c) levels ≡ answer
+Says (told x c levels number fault) = (number_of (plan_of (cube x) (f32 c) levels) ≡ number) × (fault_of (plan_of (cube x) (f32 c) levels) ≡ fault)
 Says (gridded levels d split cells vertices) = (length (grid_cells levels d split) ≡ cells) × (length (grid_vertices levels d split) ≡ vertices)
 Says (lattice d vertices cells first) = length (lattice_vertices d) ∷ length (lattice_cells d) ∷ take 4 (lattice_table d) ≡ vertices ∷ cells ∷ first
 Says (filled levels d split sum) = sum_six (grid_cells levels d split) ≡ sum
@@ -127,9 +130,11 @@ table =
     ∷ planned 0 0x8000_0000 0 (Refused (Number 1))
     ∷ planned 0 0x7fc0_0000 0 (Refused (Number 1))
     ∷ planned 0 0x7f80_0000 0 (Refused (Number 1))
-    -- box 0 to 59, c 1, L 1: 4, and x; box 0 to 0.25, c 1, L 5: 4, and the octants
+    -- box 0 to 59, c 1, L 1: 4, and x, which is 0; box 0 to 0.25, c 1, L 5: 4, and the octants, which are 3
     ∷ planned 0x426c_0000 one 1 (Refused (TooLarge X))
+    ∷ told 0x426c_0000 one 1 4 0
     ∷ planned quarter one 5 (Refused (TooLarge Octants))
+    ∷ told quarter one 5 4 3
     -- cells [0,1,2,3], [3,4,5,6], [7,8,9,10], none crossing: representatives 1 and 2; cell 1 crossing: 0 and 2
     ∷ represented chain (0 ∷ 0 ∷ 0 ∷ []) (1 ∷ 2 ∷ [])
     ∷ represented chain (0 ∷ 1 ∷ 0 ∷ []) (0 ∷ 2 ∷ [])

@@ -15,7 +15,7 @@ balance-requires c =
     let p = c.requires in
     let h = c.clear.ensures in
     let f : 1 ≤ c.args.d.levels = omega (arith, c.if-d-eq0.false) in
-    (covers_again (p.covers f) (c.clear.auto.s ∙ ap length (c.copy_from_slice.ensures.after)), f, ap (all_at_most 1) h ∙ table_bits _ _ _)
+    (covers_again (p.covers f) (c.clear.auto.s ∙ ap length c.copy.ensures), f, ap (all_at_most 1) h ∙ table_bits _ _ _)
 
 pub returns : goal.returns
-returns c = table_done (c.copy_from_slice.ensures.after) c.clear.ensures c.balance.ensures c.ones.ensures
+returns c = table_done c.copy.ensures c.clear.ensures c.balance.ensures c.ones.ensures
