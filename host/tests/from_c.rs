@@ -70,3 +70,13 @@ fn every_step_answers_c_as_it_answers_rust() {
     assert_eq!(values("read_vtk"), [kept[0], kept[1], 0]);
     assert!(lines.last().unwrap().ends_with("the same mesh"));
 }
+
+#[test]
+fn the_archive_asks_c_for_memset_alone() {
+    let listed = Command::new("nm").arg("-u").arg(env!("SPOREFERRY_ARCHIVE")).output();
+    let listed = listed.expect("nm comes with cc");
+    assert!(listed.status.success());
+    let text = String::from_utf8(listed.stdout).unwrap();
+    let asked: Vec<&str> = text.lines().filter_map(|line| line.trim().strip_prefix("U ")).collect();
+    assert_eq!(asked, ["memset"]);
+}
