@@ -1,8 +1,9 @@
+use mathlib.Core.Path.{refl, sym, ◌∙◌}
 use native.Mathlib.Omega.{arith}
-use lib.Seq.{ext_get_or}
+use Rattle.lists.proofs.Listing.{filling_done, list_is}
 use Rattle.refine.proofs.copy.Goals as goal
 
 pub returns : goal.returns
 returns c =
-    let l = c.loop-i.invariant in
-    ext_get_or 0 _ _ (omega (arith, l.0, c.requires)) (λ k h. l.1 k (omega (arith, l.0, h)))
+    let w = c.loop-i.invariant in
+    filling_done _ w (omega (arith, w.long)) ∙ list_is _ _ _ (sym c.requires) (λ k h. refl)
